@@ -29,7 +29,8 @@ script_data (Some script) = object (put (codes "place") (text_data script.place)
 
 -- where an obligation comes from
 abbrev pub place_members : Item → Members
-place_members item = put (codes "column") (count_data item.column) (put (codes "line") (count_data item.line) (put (codes "file") (text_data item.file) no_members))
+place_members item = put (codes "column") (count_data item.column)
+    (put (codes "line") (count_data item.line) (put (codes "file") (text_data item.file) no_members))
 
 -- an obligation with the state that the status table has
 abbrev pub item_data : Item → Data
@@ -67,6 +68,7 @@ texts_data texts = array (items_of (map text_data texts))
 -- who wrote it and what it is of, the files, the obligations, the scripts for none, and the sums
 abbrev pub report_data : Report → Data
 report_data report = object (put (codes "sums") (sums_data (sums_over report.items.items))
-    (put (codes "scripts_for_no_obligation") (texts_data report.strays.items) (put (codes "obligations") (items_data false report.items.items)
+    (put (codes "scripts_for_no_obligation") (texts_data report.strays.items)
+    (put (codes "obligations") (items_data false report.items.items)
     (put (codes "inputs") (inputs_data report.inputs.items) (put (codes "machine") (text_data report.machine)
     (put (codes "toolchain") (string report.toolchain.now) (put (codes "version") (string report.version.now) no_members)))))))

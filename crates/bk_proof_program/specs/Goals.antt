@@ -24,7 +24,8 @@ status_by false = Done
 abbrev pub ShowsNamed : Development → List RawScript → (name : List ℕ) → Option ℕ → Option (List ℕ × Sequent) → List ℕ → Status → Type 0
 ShowsNamed dev scripts name at None text status = status ≡ Usage
 ShowsNamed dev scripts name at (Some o) text status = (found : Option Found) × (is_open : Bool) ×
-    (option_map (λ f. f.script.now) found ≡ script_named scripts name) × ShowsGoal (flattened dev) found at o.1 text is_open × (status ≡ status_by is_open)
+    (option_map (λ f. f.script.now) found ≡ script_named scripts name) ×
+    ShowsGoal (flattened dev) found at o.1 text is_open × (status ≡ status_by is_open)
 
 -- that is so of what the files tell
 pub record IsGoalOf (files : Files) (project name : List ℕ) (at : Option ℕ) (text : List ℕ) (status : Status) : Type 0 where

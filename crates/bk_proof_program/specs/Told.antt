@@ -19,7 +19,8 @@ use Rattle.bk_proof_program.specs.declared.task.ReportForm.TheVariants.{Text, Js
 -- ---- texts
 -- as JSON a line that reads back as the obligations, else their lines, and behind these those of scripts for none
 abbrev pub WritesList : (as_json is_open_only : Bool) → List Item → List ℕ → Type 0
-WritesList true is_open_only items text = (written : List ℕ) × (text ≡ written ++ codes "\n") × (read written ≡ Some (items_data is_open_only items))
+WritesList true is_open_only items text =
+    (written : List ℕ) × (text ≡ written ++ codes "\n") × (read written ≡ Some (items_data is_open_only items))
 WritesList false is_open_only items text = (more : List ℕ) × (text ≡ list_lines is_open_only items ++ more)
 
 -- the report's lines, or a line of JSON that reads back as the report; of a page of HTML nothing is said
