@@ -37,8 +37,7 @@ fn value_text(alloc: Global, value: &Value) -> Result<Vec<u8>, Memory>
     requires { depth (view value.now) ≤ max_depth }
     ensures { IfOk result (λ text. read text.items ≡ Some (view value.now)) }
 {
-    let text = value.to_string(alloc)?;
-    Ok(Vec::from_slice(alloc, text.as_bytes())?)
+    Ok(value.to_vec(alloc)?)
 }
 
 #[tactic(auto, using(crate::proofs::Views::view_object))]
