@@ -1,15 +1,15 @@
 //! Stops in words.
 
+use crate::calls::say_calls;
 use crate::image::say_image;
 use crate::level::say_level_fault;
 use crate::limit::say_limit;
 use crate::name::say_name_fault;
 use crate::project::{say_component_fault, say_line_fault};
-use crate::say::{say, say_line, say_number, say_quoted};
-use crate::source::{Source, SourceKind, source_named};
+use crate::say::{say, say_line, say_quoted};
+use crate::source::{Source, source_named};
 use crate::spelling::{say_lexical_fault, say_syntax_fault};
 use bk_io::{Memory, Text};
-use bk_places::line_text;
 use bk_verbs::Stop;
 use std::alloc::Global;
 
@@ -27,7 +27,7 @@ pub fn explanation(alloc: Global, stop: &Stop, sources: &[Source<'_>]) -> Result
             &mut words,
             "the last component is no implementation, so that there is nothing to run\n",
         )?,
-        Stop::BadCalls(line) => say_calls(&mut words, sources, *line as usize)?,
+        Stop::BadCalls(line) => say_calls(alloc, &mut words, sources, *line as usize)?,
         Stop::BadImage(fault) => say_image(&mut words, *fault)?,
         Stop::ReadFault => say(
             &mut words,
@@ -54,24 +54,6 @@ fn say_unproved(words: &mut Vec<u8>, name: &Text) -> Result<(), Memory> {
     )?;
     words.extend_from_slice(name.as_bytes())?;
     say(words, " shows it\n")
-}
-
-// A line of a call script.
-fn say_calls(words: &mut Vec<u8>, sources: &[Source<'_>], line: usize) -> Result<(), Memory> {
-    for source in sources {
-        if source.kind == SourceKind::Calls {
-            say(words, source.name)?;
-            say(words, ":")?;
-            say_number(words, line)?;
-            say(words, "\n    ")?;
-            words.extend_from_slice(line_text(source.text, line))?;
-            say(words, "\n")?;
-        }
-    }
-    say(
-        words,
-        "a call is the name of an operation of the machine and its arguments, as in inc(4): as many as it has inputs, each a number from MININT to MAXINT, TRUE or FALSE, or an element of a set\n",
-    )
 }
 
 // The fault with this number, at a place of the file with this name.

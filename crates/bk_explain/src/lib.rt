@@ -1,6 +1,7 @@
 //! Why a task stops, in words: where the fault stands, and what could be written there.
 #![tactic(auto)]
 
+mod calls;
 mod explanation;
 mod image;
 mod level;
