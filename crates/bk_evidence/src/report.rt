@@ -44,13 +44,13 @@ pub fn inputs(alloc: Global, files: &[File<'_>]) -> Result<Vec<Input>, Memory>
 {
     let mut all = Vec::new(alloc);
     for file in files {
-        all.push(input(alloc, file)?)?;
+        all.push(input_of(alloc, file)?)?;
     }
     Ok(all)
 }
 
 // What it has of a file.
-fn input(alloc: Global, file: &File<'_>) -> Result<Input, Memory>
+fn input_of(alloc: Global, file: &File<'_>) -> Result<Input, Memory>
     ensures { IfOk result (λ i. parts_of i ≡ parts_of_file file.now) }
 {
     let digest = Sha256::digest(file.text);

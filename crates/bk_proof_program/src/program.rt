@@ -17,7 +17,7 @@ use crate::help::{USAGE, help_text, man_page};
 use crate::list::list_answer;
 use crate::prune::prune_answer;
 use crate::report::report_answer;
-use crate::task::{Task, task};
+use crate::task::{Task, task_in};
 use bk_io::{Shelf, Sink, SinkFault, put_all};
 use bk_verbs::{Status, Stop};
 use std::alloc::Global;
@@ -57,7 +57,7 @@ pub fn bkproof<H: Shelf, K: Sink>(
     ensures read_fault { result ≡ Status.ReadFault → Rose (H.faults shelf.old) (H.faults shelf.new) }
     ensures write_fault { result ≡ Status.WriteFault → Rose (K.faults out.old) (K.faults out.new) }
 {
-    match answer(alloc, words, shelf) {
+    match answer_to(alloc, words, shelf) {
         Ok(Answer::Whole(text, status)) => written(out, &text, status),
         Ok(Answer::Explained(stop, text)) => explained(alloc, out, &stop, &text),
         Err(Stop::Usage) => written(out, USAGE.as_bytes(), Status::Usage),
@@ -116,13 +116,13 @@ fn is_cut_short(status: Status) -> bool
 }
 
 // What the words ask for.
-fn answer<H: Shelf>(alloc: Global, words: &[String], shelf: &mut H) -> Result<Answer, Stop>
+fn answer_to<H: Shelf>(alloc: Global, words: &[String], shelf: &mut H) -> Result<Answer, Stop>
     ensures failed { HasCause ReadFault (H.faults shelf.old) (H.faults shelf.new) result }
     ensures told { IfOk result (λ a. (files : Files) → H.files shelf.old ≡ Some files → IsToldAnswer files a) }
     ensures ok { IfOk result IsAnswer }
     ensures err { IfErr result (λ stop. IsOfReading stop ⊎ (stop ≡ Usage)) }
 {
-    let asked = task(alloc, words)?;
+    let asked = task_in(alloc, words)?;
     if let Task::Explain {
         file,
         calls,

@@ -50,7 +50,7 @@ pub(crate) enum ReportForm {
 }
 
 /// The task that the words ask for; `Usage` where they ask for none.
-pub(crate) fn task<'a>(alloc: Global, given: &'a [String]) -> Result<Task<'a>, Stop>
+pub(crate) fn task_in<'a>(alloc: Global, given: &'a [String]) -> Result<Task<'a>, Stop>
     ensures { IfErr result (λ stop. (stop ≡ Usage) ⊎ (stop ≡ Memory)) }
 {
     let matches = matches_of(alloc, given)?;
