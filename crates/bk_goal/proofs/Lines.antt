@@ -1,6 +1,6 @@
 -- Texts of sequents, line by line.
-use Rattle.std.proofs.Common.{◌≡◌, ℕ, zero, suc, ◌+◌, ◌<◌, ◌≤◌, Option, List, [], ◌∷◌, ◌++◌, map, take, length, get_or, refl, sym, ◌∙◌, ap, subst, arith, append-nil, append_assoc, length-take}
-use Rattle.std.proofs.lemmas.List.{take_more, take_all, map-append}
+use Rattle.std.proofs.Common.{◌≡◌, ℕ, zero, suc, ◌+◌, ◌<◌, ◌≤◌, Option, List, [], ◌∷◌, ◌++◌, map, take, length, get_or, refl, sym, ◌∙◌, ap, subst, arith}
+use Rattle.std.proofs.lemmas.List.{take_more, take_all, map-append, append-nil, append_assoc, length-take-le}
 use Rattle.bk_form.specs.Formula.{Formula}
 use Rattle.bk_form.specs.Table.{Table}
 use Rattle.bk_seq.specs.declared.sequent.Sequent.{Sequent as StoredSequent}
@@ -16,6 +16,10 @@ joined one two new a b c e f g = g ∙ ap (λ t. t ++ c) (f ∙ ap (λ t. t ++ b
 pub titled_by : (one two three new a b c d : List ℕ) → one ≡ a → two ≡ one ++ b → three ≡ two ++ c → new ≡ three ++ d → new ≡ a ++ b ++ c ++ d
 titled_by one two three new a b c d e f g h = h ∙ ap (λ t. t ++ d) (joined one two three a b c e f g)
 
+-- what stands in front of a front stands in front
+pub begun : (text header title rest more : List ℕ) → text ≡ header ++ more → header ≡ title ++ rest → text ≡ title ++ (rest ++ more)
+begun text header title rest more e f = e ∙ ap (λ h. h ++ more) f ∙ append_assoc title rest more
+
 module _ (table : Table) (old : Option ℕ) where
   -- a hypothesis more
   hypotheses-more : (n : ℕ) (fs : List Formula) (f : Formula) (text line : List ℕ) → ShowsHypotheses table old n fs text → ShowsHypothesis table old (n + length fs) f line → ShowsHypotheses table old n (fs ++ f ∷ []) (text ++ line)
@@ -28,7 +32,8 @@ module _ (table : Table) (old : Option ℕ) where
 
   pub hypotheses_turn : (fs : List Formula) (i : ℕ) (f : Formula) (text line new : List ℕ) → i < length fs → f ≡ get_or fs i f → ShowsHypotheses table old 1 (take i fs) text → ShowsHypothesis table old (i + 1) f line → new ≡ text ++ line → ShowsHypotheses table old 1 (take (i + 1) fs) new
   hypotheses_turn fs i f text line new l e h s w =
-      let number : i + 1 ≡ 1 + length (take i fs) = omega (arith, l, length-take i fs) in
+      let so_far : length (take i fs) ≡ i = length-take-le i fs (omega arith) in
+      let number : i + 1 ≡ 1 + length (take i fs) = omega arith in
       let listed : take i fs ++ f ∷ [] ≡ take (i + 1) fs = ap (λ r. take i fs ++ r ∷ []) e ∙ sym (take_more fs i f l) in
       let more = hypotheses-more 1 (take i fs) f text line h (subst (λ m. ShowsHypothesis table old m f line) number s) in
       subst (ShowsHypotheses table old 1 (take (i + 1) fs)) (sym w) (subst (λ gs. ShowsHypotheses table old 1 gs (text ++ line)) listed more)
@@ -42,7 +47,7 @@ length_held [] = refl
 length_held (t ∷ ts) = ap suc (length_held ts)
 
 module _ (table : Table) (brought : Brought) (count : ℕ) where
-  Titled : ℕ → Sequent → List ℕ → Type 0
+  abbrev Titled : ℕ → Sequent → List ℕ → Type 0
   Titled n s text = ShowsTitled table (old_at brought n) n count s text
 
   -- a sequent more
@@ -57,7 +62,8 @@ module _ (table : Table) (brought : Brought) (count : ℕ) where
   pub sequents_turn : (held : List StoredSequent) (i : ℕ) (s : StoredSequent) (text block new : List ℕ) → i < length held → s ≡ get_or held i s → ShowsFrom table brought count 1 (map sequent_of (take i held)) text →
       (old : Option ℕ) → old ≡ old_at brought (i + 1) → ShowsTitled table old (i + 1) count (sequent_of s) block → new ≡ text ++ block → ShowsFrom table brought count 1 (map sequent_of (take (i + 1) held)) new
   sequents_turn held i s text block new l e h old o t w =
-      let number : i + 1 ≡ 1 + length (map sequent_of (take i held)) = omega (arith, l, length-take i held, length_held (take i held)) in
+      let so_far : length (map sequent_of (take i held)) ≡ i = length_held (take i held) ∙ length-take-le i held (omega arith) in
+      let number : i + 1 ≡ 1 + length (map sequent_of (take i held)) = omega arith in
       let listed : map sequent_of (take i held) ++ sequent_of s ∷ [] ≡ map sequent_of (take (i + 1) held) = sym (map-append sequent_of (take i held) (s ∷ [])) ∙ ap (λ r. map sequent_of (take i held ++ r ∷ [])) e ∙ ap (map sequent_of) (sym (take_more held i s l)) in
       let here : Titled (i + 1) (sequent_of s) block = subst (λ x. ShowsTitled table x (i + 1) count (sequent_of s) block) o t in
       let more = sequents-more 1 (map sequent_of (take i held)) (sequent_of s) text block h (subst (λ m. Titled m (sequent_of s) block) number here) in

@@ -1,5 +1,5 @@
 -- Texts that show the sequents which rules leave open.
-use Rattle.std.specs.Prelude.{◌≡◌, ◌-◌, ℕ, suc, min, Bool, ◌||◌, not, nat_lt, cond, List, [], ◌∷◌, ◌++◌, take, length, Option, Some, None, codes, decimal}
+use Rattle.std.specs.Prelude.{◌≡◌, ◌-◌, ℕ, suc, min, Bool, ◌||◌, not, nat_lt, nat_eq, cond, List, [], ◌∷◌, ◌++◌, take, length, Option, Some, None, codes, decimal}
 use Rattle.bk_form.specs.Formula.{Formula}
 use Rattle.bk_form.specs.Table.{Table}
 use Rattle.bk_seq.specs.Sequents.{Sequent}
@@ -95,22 +95,34 @@ pub record IsBrought (table : Table) (rules : List Rule) (s : Sequent) (k : ℕ)
   pub news : brought.news ≡ came_of_first before (length left)
 
 -- ---- scripts
+-- an obligation: its name and its sequent
+abbrev pub Named : Type 0
+Named = List ℕ × Sequent
+
 -- of so many rules, how many are asked for: all, if it is not said
 abbrev pub count_asked : Option ℕ → ℕ → ℕ
 count_asked None rules = rules
 count_asked (Some at) rules = min at rules
 
+-- the words over what is left behind so many of the rules of an obligation's script
+abbrev pub title : List ℕ → ℕ → ℕ → List ℕ
+title name k rules = cond (nat_eq k 0)
+    (name ++ (codes ", before the first of " ++ decimal rules) ++ codes " rules")
+    (name ++ (codes ", after rule " ++ decimal k) ++ (codes " of " ++ decimal rules))
+
 -- of the rules that the script stands for those that are asked for go so far on the sequent, and what is shown is exactly what the kernel's
 -- definition leaves behind them; it is told whether a sequent is left, or a rule that is asked for does not fit
-pub record ShowsAfter (dev : Development) (script : RawScript) (at : Option ℕ) (s : Sequent) (text : List ℕ) (is_open : Bool) : Type 0 where
+pub record ShowsAfter (dev : Development) (script : RawScript) (at : Option ℕ) (o : Named) (text : List ℕ) (is_open : Bool) : Type 0 where
   pub rules : List Rule
   pub table : Table
   pub grounded : IsGrounded dev script rules table
   pub k : ℕ
   pub left : List Sequent
-  pub furthest : IsFurthest table (take (count_asked at (length rules)) rules) s k left
+  pub furthest : IsFurthest table (take (count_asked at (length rules)) rules) o.1 k left
+  pub rest : List ℕ
+  pub titled : text ≡ title o.0 k (length rules) ++ rest
   pub brought : Brought
-  pub brings : IsBrought table rules s k left brought
+  pub brings : IsBrought table rules o.1 k left brought
   pub shows : ShowsWithin table brought left text
   pub open_is : is_open ≡ (nat_lt k (count_asked at (length rules)) || nat_lt 0 (length left))
 
@@ -122,6 +134,6 @@ pub record ShowsAlone (table : Table) (s : Sequent) (text : List ℕ) (is_open :
   pub open_is : is_open ≡ not (is_obvious s.0 s.1)
 
 -- what is open of an obligation with a script behind the rules that are asked for, and of one without a script
-abbrev pub ShowsGoal : Development → Option Found → Option ℕ → Sequent → List ℕ → Bool → Type 0
-ShowsGoal dev (Some found) at s text is_open = ShowsAfter dev found.script.now at s text is_open
-ShowsGoal dev None at s text is_open = ShowsAlone dev.table s text is_open
+abbrev pub ShowsGoal : Development → Option Found → Option ℕ → Named → List ℕ → Bool → Type 0
+ShowsGoal dev (Some found) at o text is_open = ShowsAfter dev found.script.now at o text is_open
+ShowsGoal dev None at o text is_open = ShowsAlone dev.table o.1 text is_open

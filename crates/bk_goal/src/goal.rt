@@ -1,19 +1,20 @@
 //! What is open behind the rules of a script.
 
-ghost use Rattle.std.specs.Prelude.{◌≡◌, ◌<◌, ◌^◌, ◌||◌, nat_lt, [], ◌∷◌, length, map, IfOk, IfSome};
+ghost use Rattle.std.specs.Prelude.{◌≡◌, ◌<◌, ◌^◌, ◌||◌, ℕ, nat_lt, List, [], ◌∷◌, ◌++◌, length, map, IfOk, IfSome};
 ghost use Rattle.bk_dev.specs.Flattened.{flattened};
 ghost use Rattle.bk_seq.specs.Sequents.{sequent_of, Types, IsWithin};
+ghost use Rattle.bk_po.specs.Shown.{named_sequent};
 ghost use Rattle.bk_status.specs.Replayable.{IsReplayable};
 ghost use Rattle.bk_p_proof.specs.Files.{IsShort};
 ghost use Rattle.bk_scripts.specs.Grounding.{IsGrounded};
 ghost use Rattle.bk_goal.specs.Shown as meant;
-ghost use Rattle.bk_goal.specs.Shown.{ShowsGoal, ShowsAfter, ShowsAlone, ShowsWithin};
+ghost use Rattle.bk_goal.specs.Shown.{ShowsGoal, ShowsAfter, ShowsAlone, ShowsWithin, title};
 
 use crate::asked::{Asked, Found};
 use crate::brought::{Brought, brought};
 use crate::sequents::{sequents_text, write_count};
 use bk_form::VarTable;
-use bk_io::Memory;
+use bk_io::{Memory, Text};
 use bk_kernel::{Rule, is_obvious};
 use bk_places::place_of;
 use bk_raw::RawRule;
@@ -38,7 +39,7 @@ pub fn goal_text(alloc: Global, asked: Asked<'_>) -> Result<GoalText, Memory>
     requires replayable { IsReplayable asked.table.now (sequent_of asked.obligation.now.sequent) }
     requires short { IfSome asked.found (λ f. IsShort f.script.now) }
     ensures { IfOk result (λ g. ShowsGoal (flattened asked.dev.now) asked.found asked.at
-        (sequent_of asked.obligation.now.sequent) g.text.items g.is_open) }
+        (named_sequent asked.obligation.now) g.text.items g.is_open) }
 {
     let sequent = again(alloc, &asked.obligation.sequent)?;
     match asked.found {
@@ -86,7 +87,8 @@ fn within(
     before: &[u8],
     behind: &[u8],
 ) -> Result<Vec<u8>, Memory>
-    ensures { IfOk result (λ text. ShowsWithin table.now brought (map sequent_of open.now) text.items) }
+    ensures shows { IfOk result (λ text. ShowsWithin table.now brought (map sequent_of open.now) text.items) }
+    ensures begins { IfOk result (λ text. (rest : List ℕ) × (text.items ≡ before.now ++ rest)) }
 {
     let shown = sequents_text(alloc, table, open, brought)?;
     let mut text = Vec::from_slice(alloc, before)?;
@@ -106,7 +108,7 @@ fn behind_rules(
     requires replayable { IsReplayable asked.table.now (sequent_of sequent) }
     requires short { IsShort found.script.now }
     ensures { IfOk result (λ g. ShowsAfter (flattened asked.dev.now) found.script.now asked.at
-        (sequent_of sequent) g.text.items g.is_open) }
+        (asked.obligation.now.name, sequent_of sequent) g.text.items g.is_open) }
 {
     asked.dev.facts();
     let (rules, table) = ground(alloc, found.script, asked.dev, asked.table)?;
@@ -127,13 +129,13 @@ fn behind_grounded(
     requires within { IsWithin (sequent_of sequent) }
     requires countable { length rules.now < 2 ^ 32 }
     ensures { IfOk result (λ g. ShowsAfter (flattened asked.dev.now) found.script.now asked.at
-        (sequent_of sequent) g.text.items g.is_open) }
+        (asked.obligation.now.name, sequent_of sequent) g.text.items g.is_open) }
 {
     let count = count_asked(asked.at, rules.len());
     let before = again(alloc, &sequent)?;
     let standing = open_after(alloc, table, sequent, rules, count)?;
     let new = brought(alloc, table, before, rules, &standing)?;
-    let header = header_text(alloc, asked, found, standing.done as usize)?;
+    let header = header_text(alloc, asked, found, standing.done as usize, rules.len())?;
     let next = next_text(alloc, asked, found, rules, &standing, count)?;
     let text = within(alloc, table, &standing.left, new, &header, &next)?;
     let is_open = is_left(&standing, count);
@@ -171,24 +173,59 @@ fn header_text(
     asked: Asked<'_>,
     found: Found<'_>,
     done: usize,
-) -> Result<Vec<u8>, Memory> {
-    let mut text = Vec::new(alloc);
-    text.extend_from_slice(asked.obligation.name.as_bytes())?;
-    let rules = &found.script.rules;
-    match done.checked_sub(1) {
-        Some(last) => {
-            write_count(&mut text, b", after rule ", done)?;
-            write_count(&mut text, b" of ", rules.len())?;
-            if let Some(rule) = rules.get(last) {
-                write_place(&mut text, found, rule)?;
-            }
-        }
-        None => {
-            write_count(&mut text, b", before the first of ", rules.len())?;
-            text.extend_from_slice(b" rules")?;
-        }
-    }
+    rules: usize,
+) -> Result<Vec<u8>, Memory>
+    ensures { IfOk result (λ text. (rest : List ℕ) × (text.items ≡ title asked.obligation.now.name done rules ++ rest)) }
+{
+    let mut text = title_text(alloc, &asked.obligation.name, done, rules)?;
+    let place = place_behind(alloc, found, done)?;
+    text.extend_from_slice(&place)?;
     text.extend_from_slice(b"\n")?;
+    Ok(text)
+}
+
+// `Tally.inc.1, after rule 2 of 5`.
+fn title_text(alloc: Global, name: &Text, done: usize, rules: usize) -> Result<Vec<u8>, Memory>
+    ensures { IfOk result (λ text. text.items ≡ title name.now done rules) }
+{
+    if done == 0 {
+        return title_before(alloc, name, rules);
+    }
+    title_after(alloc, name, done, rules)
+}
+
+// `Tally.inc.1, before the first of 5 rules`.
+fn title_before(alloc: Global, name: &Text, rules: usize) -> Result<Vec<u8>, Memory>
+    ensures { IfOk result (λ text. text.items ≡ title name.now 0 rules) }
+{
+    let mut text = Vec::new(alloc);
+    text.extend_from_slice(name.as_bytes())?;
+    write_count(&mut text, b", before the first of ", rules)?;
+    text.extend_from_slice(b" rules")?;
+    Ok(text)
+}
+
+// `Tally.inc.1, after rule 2 of 5`, where there is such a rule.
+fn title_after(alloc: Global, name: &Text, done: usize, rules: usize) -> Result<Vec<u8>, Memory>
+    requires { 0 < done }
+    ensures { IfOk result (λ text. text.items ≡ title name.now done rules) }
+{
+    let mut text = Vec::new(alloc);
+    text.extend_from_slice(name.as_bytes())?;
+    write_count(&mut text, b", after rule ", done)?;
+    write_count(&mut text, b" of ", rules)?;
+    Ok(text)
+}
+
+// The place of the last of so many rules; empty where there is none.
+fn place_behind(alloc: Global, found: Found<'_>, done: usize) -> Result<Vec<u8>, Memory> {
+    let mut text = Vec::new(alloc);
+    let Some(last) = done.checked_sub(1) else {
+        return Ok(text);
+    };
+    if let Some(rule) = found.script.rules.get(last) {
+        write_place(&mut text, found, rule)?;
+    }
     Ok(text)
 }
 

@@ -11,6 +11,6 @@ returns c =
     record {
       brought = unmarked;
       none = refl;
-      shows = subst (λ held. ShowsWithin c.args.asked.table.now unmarked (map sequent_of held) c.in_ok-text.text.items) (c.deref.ensures.value ∙ c.in_ok-open.ensures) c.in_ok-text.ensures;
+      shows = subst (λ held. ShowsWithin c.args.asked.table.now unmarked (map sequent_of held) c.in_ok-text.text.items) (c.deref.ensures.value ∙ c.in_ok-open.ensures) c.in_ok-text.ensures.shows;
       open_is = ap not c.is_obvious.ensures;
     }
