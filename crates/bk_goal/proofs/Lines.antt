@@ -1,11 +1,12 @@
 -- Texts of sequents, line by line.
-use Rattle.std.proofs.Common.{◌≡◌, ℕ, zero, suc, ◌+◌, ◌<◌, ◌≤◌, Option, List, [], ◌∷◌, ◌++◌, map, take, length, get_or, refl, sym, ◌∙◌, ap, subst, arith}
+use Rattle.std.proofs.Common.{◌≡◌, ℕ, zero, suc, ◌+◌, ◌<◌, ◌≤◌, Option, List, [], ◌∷◌, ◌++◌, map, take, length, get_or, refl, sym, ◌∙◌, ap, subst, arith, true, nat_lt}
+use Rattle.std.proofs.lemmas.Bool.Decides.{nat_tests}
 use Rattle.std.proofs.lemmas.List.{take_more, take_all, map-append, append-nil, append_assoc, length-take-le}
 use Rattle.bk_form.specs.Formula.{Formula}
 use Rattle.bk_form.specs.Table.{Table}
 use Rattle.bk_seq.specs.declared.sequent.Sequent.{Sequent as StoredSequent}
 use Rattle.bk_seq.specs.Sequents.{Sequent, sequent_of}
-use Rattle.bk_goal.specs.Shown.{ShowsHypothesis, ShowsHypotheses, ShowsTitled, ShowsFrom, old_at}
+use Rattle.bk_goal.specs.Shown.{ShowsHypothesis, ShowsHypotheses, ShowsTitled, ShowsFrom, ShowsBetween, old_at}
 use Rattle.bk_goal.specs.declared.brought.Brought.{Brought}
 
 -- three pieces, one behind another
@@ -16,9 +17,17 @@ joined one two new a b c e f g = g ∙ ap (λ t. t ++ c) (f ∙ ap (λ t. t ++ b
 pub titled_by : (one two three new a b c d : List ℕ) → one ≡ a → two ≡ one ++ b → three ≡ two ++ c → new ≡ three ++ d → new ≡ a ++ b ++ c ++ d
 titled_by one two three new a b c d e f g h = h ∙ ap (λ t. t ++ d) (joined one two three a b c e f g)
 
--- what stands in front of a front stands in front
-pub begun : (text header title rest more : List ℕ) → text ≡ header ++ more → header ≡ title ++ rest → text ≡ title ++ (rest ++ more)
-begun text header title rest more e f = e ∙ ap (λ h. h ++ more) f ∙ append_assoc title rest more
+-- tests of numbers
+pub is_less : (m n : ℕ) → m < n → nat_lt m n ≡ true
+is_less m n h = grind (arith, nat_tests)
+
+-- what is shown between two texts, which are written
+pub put_between : (table : Table) (brought : Brought) {before title behind next : List ℕ} {held left : List StoredSequent} (text : List ℕ) {words : List ℕ} → before ≡ title → title ≡ words → behind ≡ next → held ≡ left →
+    ShowsBetween before behind table brought (map sequent_of held) text → ShowsBetween words next table brought (map sequent_of left) text
+put_between table brought {before} {title} {behind} {next} {held} {left} text {words} e f g h shows =
+    let first = subst (λ t. ShowsBetween t behind table brought (map sequent_of held) text) (e ∙ f) shows in
+    let second = subst (λ t. ShowsBetween words t table brought (map sequent_of held) text) g first in
+    subst (λ ss. ShowsBetween words next table brought (map sequent_of ss) text) h second
 
 module _ (table : Table) (old : Option ℕ) where
   -- a hypothesis more

@@ -6,8 +6,12 @@ use Rattle.std.proofs.lemmas.List.{take_more}
 use Rattle.std.proofs.lemmas.Slice.Zip.{all_zipped_more}
 use Rattle.bk_form.specs.Each.{Each}
 use Rattle.bk_dev.specs.Development.{Development}
+use Rattle.bk_seq.specs.declared.sequent.Sequent.{Sequent as StoredSequent}
 use Rattle.bk_seq.specs.Sequents.{Sequent, sequent_of}
 use Rattle.bk_kernel.specs.Derivations.{Derives, IsVerdict}
+use Rattle.bk_kernel.specs.Standing.{in_order}
+use Rattle.bk_kernel.proofs.EachItem.{each-append}
+use Rattle.bk_kernel.proofs.Replayed.{first-is-last}
 use Rattle.bk_kernel.specs.declared.replaying.Verdict.{Verdict}
 use Rattle.bk_kernel.specs.declared.replaying.Verdict.TheVariants.{Closed}
 use Rattle.bk_raw.specs.Trees.ScriptTree.{RawScript}
@@ -38,6 +42,9 @@ any-default (x ∷ xs) (suc i) d e l = any-default xs i d e (omega arith)
 
 pub all_more : {X : Type 0} (P : X → Type 0) (xs : List X) (i : ℕ) (x : X) → i < length xs → x ≡ get_or xs i x → ((k : ℕ) (d : X) → k < i → P (get_or xs k d)) → P x → (k : ℕ) (d : X) → k < i + 1 → P (get_or xs k d)
 all_more {X} P xs i x l e h p k d less = below_more (λ m. (y : X) → P (get_or xs m y)) i (λ m b y. h m y b) (λ y. subst P (e ∙ any-default xs i x y l) p) k less d
+
+pub listed_at : (list : List Obligation) (i : ℕ) (o : Obligation) → i < length list → o ≡ get_or list i o → Contains list o
+listed_at list i o l e = (i, l, sym e)
 
 -- the rules that close a sequent prove
 pub closed_proves : (dev : Development) (list : List Obligation) (script : RawScript) (work : Work) (verdict : Verdict) → IsWork dev list script work → IsVerdict work.table work.rules.items (sequent_of work.sequent) verdict → verdict ≡ Closed → ProvesOne dev list script
@@ -72,6 +79,17 @@ module _ {E : Type 0} (dev : Development) (list : List Obligation) (text : List 
   pub counted_of_none : ((before : List RawScript) → AreScriptsOf (text ∷ []) before → ⊥) → (r : Result Pruned E) → IfOk r (λ p. CountsUnproved dev list text p.unproved)
   counted_of_none none (Ok p) = λ before reads zero. absurd (none before reads)
   counted_of_none none (Err e) = tt
+
+-- ---- open sequents, of which the first stands last
+module _ (P : Sequent → Type 0) (held others : List StoredSequent) (first : StoredSequent) (popped : held ≡ others ++ first ∷ []) (each : Each P (in_order held)) where
+  both : P (sequent_of first) × Each P (in_order others)
+  both = subst (Each P) (first-is-last held others first popped) each
+
+  pub each_of_first : P (sequent_of first)
+  each_of_first = both.0
+
+  pub each_placed : (news after : List StoredSequent) → in_order after ≡ map sequent_of news ++ in_order others → Each P (map sequent_of news) → Each P (in_order after)
+  each_placed news after placed new = subst (Each P) (sym placed) (each-append P (map sequent_of news) (in_order others) new both.1)
 
 -- ---- states
 pub has_states : {E : Type 0} (dev : Development) (before : List RawScript) (text : List ℕ) (after : List RawScript) → AreScriptsOf (text ∷ []) after → (r : Result Bool E) → IfOk r (λ have. have ≡ true → AllZip IsNoLonger before after) → IfOk r (λ have. have ≡ true → HaveSameRows dev before after) → IfOk r (λ has. has ≡ true → HasStatesOf dev before text)

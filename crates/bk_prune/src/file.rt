@@ -220,7 +220,7 @@ fn planned(
         table,
         sequent,
     } = work;
-    let Some(steps) = steps(alloc, &table, &sequent, &rules)? else {
+    let Some(steps) = steps(alloc, &table, sequent, &rules)? else {
         return Ok(None);
     };
     let fates = fates(alloc, &rules, &steps, drops)?;

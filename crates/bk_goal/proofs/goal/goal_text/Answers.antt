@@ -15,14 +15,14 @@ returns-in-Some c =
     let dev = flattened c.args.asked.dev.now in
     let at = c.args.asked.at in
     let o = c.args.asked.obligation.now in
-    let shown = subst (λ s. IfOk c.behind_rules.result (λ g. ShowsAfter dev c.in-Some.found.script.now at (o.name, s) g.text.items g.is_open)) c.in_ok-sequent.ensures c.behind_rules.ensures in
+    let shown = subst (λ s. IfOk c.behind_rules.result (λ g. ShowsAfter dev c.in-Some.found at (o.name, s) g.text.items g.is_open)) c.in_ok-sequent.ensures c.behind_rules.ensures in
     subst (λ f. IfOk c.behind_rules.result (λ g. ShowsGoal dev f at (named_sequent o) g.text.items g.is_open)) (sym c.in-Some.is) shown
 
 pub returns-in-None : goal.returns-in-None
 returns-in-None c =
     let dev = flattened c.args.asked.dev.now in
+    let at = c.args.asked.at in
     let o = c.args.asked.obligation.now in
-    let s = sequent_of o.sequent in
-    let own = subst (λ s. IfOk c.alone.result (λ g. ShowsAlone c.args.asked.table.now s g.text.items g.is_open)) c.in_ok-sequent.ensures c.alone.ensures in
-    let shown = subst (λ t. IfOk c.alone.result (λ g. ShowsAlone t s g.text.items g.is_open)) c.requires.table own in
-    subst (λ f. IfOk c.alone.result (λ g. ShowsGoal dev f c.args.asked.at (named_sequent o) g.text.items g.is_open)) (sym c.in-None.is) shown
+    let own = subst (λ s. IfOk c.alone.result (λ g. ShowsAlone c.args.asked.table.now (o.name, s) g.text.items g.is_open)) c.in_ok-sequent.ensures c.alone.ensures in
+    let shown = subst (λ t. IfOk c.alone.result (λ g. ShowsAlone t (named_sequent o) g.text.items g.is_open)) c.requires.table own in
+    subst (λ f. IfOk c.alone.result (λ g. ShowsGoal dev f at (named_sequent o) g.text.items g.is_open)) (sym c.in-None.is) shown
