@@ -1,12 +1,13 @@
 -- Texts of sequents, line by line.
-use Rattle.std.proofs.Common.{◌≡◌, ℕ, zero, suc, ◌+◌, ◌<◌, ◌≤◌, Option, List, [], ◌∷◌, ◌++◌, map, take, length, get_or, refl, sym, ◌∙◌, ap, subst, arith, true, nat_lt}
+use Rattle.std.proofs.Common.{◌≡◌, ℕ, zero, suc, ◌+◌, ◌<◌, ◌≤◌, Option, List, [], ◌∷◌, ◌++◌, map, take, length, get_or, refl, sym, ◌∙◌, ap, subst, arith, true, false, cond, codes, nat_lt}
+use Rattle.std.specs.Prelude.{nat_eq, decimal}
 use Rattle.std.proofs.lemmas.Bool.Decides.{nat_tests}
 use Rattle.std.proofs.lemmas.List.{take_more, take_all, map-append, append-nil, append_assoc, length-take-le}
 use Rattle.bk_form.specs.Formula.{Formula}
 use Rattle.bk_form.specs.Table.{Table}
 use Rattle.bk_seq.specs.declared.sequent.Sequent.{Sequent as StoredSequent}
 use Rattle.bk_seq.specs.Sequents.{Sequent, sequent_of}
-use Rattle.bk_goal.specs.Shown.{ShowsHypothesis, ShowsHypotheses, ShowsTitled, ShowsFrom, ShowsBetween, old_at}
+use Rattle.bk_goal.specs.Shown.{ShowsHypothesis, ShowsHypotheses, ShowsTitled, ShowsFrom, ShowsBetween, old_at, title}
 use Rattle.bk_goal.specs.declared.brought.Brought.{Brought}
 
 -- three pieces, one behind another
@@ -20,6 +21,14 @@ titled_by one two three new a b c d e f g h = h ∙ ap (λ t. t ++ d) (joined on
 -- tests of numbers
 pub is_less : (m n : ℕ) → m < n → nat_lt m n ≡ true
 is_less m n h = grind (arith, nat_tests)
+
+is_some : (k : ℕ) → 0 < k → nat_eq k 0 ≡ false
+is_some k h = grind (arith, nat_tests)
+
+-- the title behind some rules
+pub title_of_some : (name : List ℕ) (k rules : ℕ) (text : List ℕ) → 0 < k → text ≡ name ++ (codes ", after rule " ++ decimal k) ++ (codes " of " ++ decimal rules) → text ≡ title name k rules
+title_of_some name k rules text h e =
+    e ∙ sym (ap (λ b. cond b (name ++ (codes ", before the first of " ++ decimal rules) ++ codes " rules") (name ++ (codes ", after rule " ++ decimal k) ++ (codes " of " ++ decimal rules))) (is_some k h))
 
 -- what is shown between two texts, which are written
 pub put_between : (table : Table) (brought : Brought) {before title behind next : List ℕ} {held left : List StoredSequent} (text : List ℕ) {words : List ℕ} → before ≡ title → title ≡ words → behind ≡ next → held ≡ left →
