@@ -1,11 +1,13 @@
 -- Texts of sequents, line by line.
-use Rattle.std.proofs.Common.{◌≡◌, ℕ, zero, suc, ◌+◌, ◌<◌, ◌≤◌, Option, List, [], ◌∷◌, ◌++◌, map, take, length, get_or, refl, sym, ◌∙◌, ap, subst, arith, append-nil, append_assoc, length-take}
-use Rattle.std.proofs.lemmas.List.{take_more, take_all, map-append}
+use Rattle.std.proofs.Common.{◌≡◌, ℕ, zero, suc, ◌+◌, ◌<◌, ◌≤◌, Option, List, [], ◌∷◌, ◌++◌, map, take, length, get_or, refl, sym, ◌∙◌, ap, subst, arith, true, false, cond, codes, nat_lt}
+use Rattle.std.specs.Prelude.{nat_eq, decimal}
+use Rattle.std.proofs.lemmas.Bool.Decides.{nat_tests}
+use Rattle.std.proofs.lemmas.List.{take_more, take_all, map-append, append-nil, append_assoc, length-take-le}
 use Rattle.bk_form.specs.Formula.{Formula}
 use Rattle.bk_form.specs.Table.{Table}
 use Rattle.bk_seq.specs.declared.sequent.Sequent.{Sequent as StoredSequent}
 use Rattle.bk_seq.specs.Sequents.{Sequent, sequent_of}
-use Rattle.bk_goal.specs.Shown.{ShowsHypothesis, ShowsHypotheses, ShowsTitled, ShowsFrom, old_at}
+use Rattle.bk_goal.specs.Shown.{ShowsHypothesis, ShowsHypotheses, ShowsTitled, ShowsFrom, ShowsBetween, old_at, title}
 use Rattle.bk_goal.specs.declared.brought.Brought.{Brought}
 
 -- three pieces, one behind another
@@ -15,6 +17,26 @@ joined one two new a b c e f g = g ∙ ap (λ t. t ++ c) (f ∙ ap (λ t. t ++ b
 -- a title of four pieces, and what stands under it
 pub titled_by : (one two three new a b c d : List ℕ) → one ≡ a → two ≡ one ++ b → three ≡ two ++ c → new ≡ three ++ d → new ≡ a ++ b ++ c ++ d
 titled_by one two three new a b c d e f g h = h ∙ ap (λ t. t ++ d) (joined one two three a b c e f g)
+
+-- tests of numbers
+pub is_less : (m n : ℕ) → m < n → nat_lt m n ≡ true
+is_less m n h = grind (arith, nat_tests)
+
+is_some : (k : ℕ) → 0 < k → nat_eq k 0 ≡ false
+is_some k h = grind (arith, nat_tests)
+
+-- the title behind some rules
+pub title_of_some : (name : List ℕ) (k rules : ℕ) (text : List ℕ) → 0 < k → text ≡ name ++ (codes ", after rule " ++ decimal k) ++ (codes " of " ++ decimal rules) → text ≡ title name k rules
+title_of_some name k rules text h e =
+    e ∙ sym (ap (λ b. cond b (name ++ (codes ", before the first of " ++ decimal rules) ++ codes " rules") (name ++ (codes ", after rule " ++ decimal k) ++ (codes " of " ++ decimal rules))) (is_some k h))
+
+-- what is shown between two texts, which are written
+pub put_between : (table : Table) (brought : Brought) {before title behind next : List ℕ} {held left : List StoredSequent} (text : List ℕ) {words : List ℕ} → before ≡ title → title ≡ words → behind ≡ next → held ≡ left →
+    ShowsBetween before behind table brought (map sequent_of held) text → ShowsBetween words next table brought (map sequent_of left) text
+put_between table brought {before} {title} {behind} {next} {held} {left} text {words} e f g h shows =
+    let first = subst (λ t. ShowsBetween t behind table brought (map sequent_of held) text) (e ∙ f) shows in
+    let second = subst (λ t. ShowsBetween words t table brought (map sequent_of held) text) g first in
+    subst (λ ss. ShowsBetween words next table brought (map sequent_of ss) text) h second
 
 module _ (table : Table) (old : Option ℕ) where
   -- a hypothesis more
@@ -28,7 +50,8 @@ module _ (table : Table) (old : Option ℕ) where
 
   pub hypotheses_turn : (fs : List Formula) (i : ℕ) (f : Formula) (text line new : List ℕ) → i < length fs → f ≡ get_or fs i f → ShowsHypotheses table old 1 (take i fs) text → ShowsHypothesis table old (i + 1) f line → new ≡ text ++ line → ShowsHypotheses table old 1 (take (i + 1) fs) new
   hypotheses_turn fs i f text line new l e h s w =
-      let number : i + 1 ≡ 1 + length (take i fs) = omega (arith, l, length-take i fs) in
+      let so_far : length (take i fs) ≡ i = length-take-le i fs (omega arith) in
+      let number : i + 1 ≡ 1 + length (take i fs) = omega arith in
       let listed : take i fs ++ f ∷ [] ≡ take (i + 1) fs = ap (λ r. take i fs ++ r ∷ []) e ∙ sym (take_more fs i f l) in
       let more = hypotheses-more 1 (take i fs) f text line h (subst (λ m. ShowsHypothesis table old m f line) number s) in
       subst (ShowsHypotheses table old 1 (take (i + 1) fs)) (sym w) (subst (λ gs. ShowsHypotheses table old 1 gs (text ++ line)) listed more)
@@ -42,7 +65,7 @@ length_held [] = refl
 length_held (t ∷ ts) = ap suc (length_held ts)
 
 module _ (table : Table) (brought : Brought) (count : ℕ) where
-  Titled : ℕ → Sequent → List ℕ → Type 0
+  abbrev Titled : ℕ → Sequent → List ℕ → Type 0
   Titled n s text = ShowsTitled table (old_at brought n) n count s text
 
   -- a sequent more
@@ -57,7 +80,8 @@ module _ (table : Table) (brought : Brought) (count : ℕ) where
   pub sequents_turn : (held : List StoredSequent) (i : ℕ) (s : StoredSequent) (text block new : List ℕ) → i < length held → s ≡ get_or held i s → ShowsFrom table brought count 1 (map sequent_of (take i held)) text →
       (old : Option ℕ) → old ≡ old_at brought (i + 1) → ShowsTitled table old (i + 1) count (sequent_of s) block → new ≡ text ++ block → ShowsFrom table brought count 1 (map sequent_of (take (i + 1) held)) new
   sequents_turn held i s text block new l e h old o t w =
-      let number : i + 1 ≡ 1 + length (map sequent_of (take i held)) = omega (arith, l, length-take i held, length_held (take i held)) in
+      let so_far : length (map sequent_of (take i held)) ≡ i = length_held (take i held) ∙ length-take-le i held (omega arith) in
+      let number : i + 1 ≡ 1 + length (map sequent_of (take i held)) = omega arith in
       let listed : map sequent_of (take i held) ++ sequent_of s ∷ [] ≡ map sequent_of (take (i + 1) held) = sym (map-append sequent_of (take i held) (s ∷ [])) ∙ ap (λ r. map sequent_of (take i held ++ r ∷ [])) e ∙ ap (map sequent_of) (sym (take_more held i s l)) in
       let here : Titled (i + 1) (sequent_of s) block = subst (λ x. ShowsTitled table x (i + 1) count (sequent_of s) block) o t in
       let more = sequents-more 1 (map sequent_of (take i held)) (sequent_of s) text block h (subst (λ m. Titled m (sequent_of s) block) number here) in

@@ -1,12 +1,15 @@
 -- Texts that show the sequents which rules leave open.
-use Rattle.std.specs.Prelude.{◌≡◌, ◌-◌, ℕ, suc, min, Bool, ◌||◌, not, nat_lt, cond, List, [], ◌∷◌, ◌++◌, take, length, Option, Some, None, codes, decimal}
+use Rattle.std.specs.Prelude.{◌≡◌, ◌+◌, ◌-◌, ℕ, suc, min, nat_lt, nat_eq, Bool, true, false, ◌||◌, not, cond}
+use Rattle.std.specs.Prelude.{List, [], ◌∷◌, ◌++◌, take, length, Option, Some, None, codes, decimal}
 use Rattle.bk_form.specs.Formula.{Formula}
 use Rattle.bk_form.specs.Table.{Table}
 use Rattle.bk_seq.specs.Sequents.{Sequent}
 use Rattle.bk_show.specs.Shown.{shown}
 use Rattle.bk_layout.specs.Laid.{IsLaidOut}
+use Rattle.bk_seq.specs.Paths.{numbered_item}
 use Rattle.bk_dev.specs.Development.{Development}
-use Rattle.bk_raw.specs.Trees.ScriptTree.{RawScript}
+use Rattle.bk_raw.specs.Trees.ScriptTree.{RawRule}
+use Rattle.bk_places.specs.Places.{line_of, column_of}
 use Rattle.bk_kernel.specs.declared.rule.Rule.{Rule}
 use Rattle.bk_kernel.specs.Obvious.{is_obvious}
 use Rattle.bk_scripts.specs.Grounding.{IsGrounded}
@@ -60,19 +63,18 @@ old_at brought n = cond (nat_lt brought.news n) None (Some brought.old)
 abbrev pub ShowsFrom : Table → Brought → ℕ → ℕ → List Sequent → List ℕ → Type 0
 ShowsFrom table brought count n [] text = text ≡ []
 ShowsFrom table brought count n (s ∷ ss) text =
-    (first rest : List ℕ) × ShowsTitled table (old_at brought n) n count s first × ShowsFrom table brought count (suc n) ss rest × (text ≡ first ++ rest)
+    (first rest : List ℕ) × ShowsTitled table (old_at brought n) n count s first ×
+    ShowsFrom table brought count (suc n) ss rest × (text ≡ first ++ rest)
 
 -- these sequents, in order, and no others
 abbrev pub ShowsSequents : Table → Brought → List Sequent → List ℕ → Type 0
 ShowsSequents table brought ss text = ShowsFrom table brought (length ss) 1 ss text
 
--- within a text
-pub record ShowsWithin (table : Table) (brought : Brought) (ss : List Sequent) (text : List ℕ) : Type 0 where
-  pub before : List ℕ
+-- between two other texts
+pub record ShowsBetween (before behind : List ℕ) (table : Table) (brought : Brought) (ss : List Sequent) (text : List ℕ) : Type 0 where
   pub shown_text : List ℕ
-  pub behind : List ℕ
-  pub splits : text ≡ before ++ shown_text ++ behind
   pub shows : ShowsSequents table brought ss shown_text
+  pub whole : text ≡ before ++ shown_text ++ behind
 
 -- ---- what a rule brought
 -- how many hypotheses the sequent has on which a rule works
@@ -94,34 +96,96 @@ pub record IsBrought (table : Table) (rules : List Rule) (s : Sequent) (k : ℕ)
   pub old : brought.old ≡ hypotheses_of_first before
   pub news : brought.news ≡ came_of_first before (length left)
 
--- ---- scripts
+-- ---- words around them
+-- ` (FILE:LINE:COLUMN)`: a byte of the text of a file
+abbrev pub place_text : List ℕ → List ℕ → ℕ → List ℕ
+place_text file text at =
+    codes " (" ++ file ++ (codes ":" ++ decimal (line_of text at)) ++ (codes ":" ++ decimal (column_of text at)) ++ codes ")"
+
+-- where a rule begins, if there is one
+abbrev pub place_of_rule : Found → Option RawRule → List ℕ
+place_of_rule found None = []
+place_of_rule found (Some rule) = place_text found.file.now found.text.now rule.at
+
+-- an obligation's name, and behind how many of so many rules
+abbrev pub title : List ℕ → ℕ → ℕ → List ℕ
+title name k rules = cond (nat_eq k 0)
+    (name ++ (codes ", before the first of " ++ decimal rules) ++ codes " rules")
+    (name ++ (codes ", after rule " ++ decimal k) ++ (codes " of " ++ decimal rules))
+
+-- the line over what is left behind k of so many rules, with the place of rule k
+abbrev pub header : List ℕ → Found → ℕ → ℕ → List ℕ
+header name found k rules = title name k rules ++ place_of_rule found (numbered_item found.script.now.rules k) ++ codes "\n"
+
+-- the line of a rule: its number, its place, and what is written there
+abbrev pub rule_line : Found → ℕ → RawRule → List ℕ → List ℕ
+rule_line found number rule written =
+    (codes "rule " ++ decimal number) ++ place_of_rule found (Some rule) ++ codes ": " ++ written ++ codes "\n"
+
+-- words where a rule that is asked for does not fit, and none where it is not asked for
+abbrev pub TellsMisfit : Bool → List ℕ → Type 0
+TellsMisfit true text = (words : List ℕ) × (text ≡ codes "  does not fit: " ++ words ++ codes "\n")
+TellsMisfit false text = text ≡ []
+
+-- the rule behind the first k, of which so many are asked for
+pub record TellsRule (found : Found) (k asked : ℕ) (rule : RawRule) (text : List ℕ) : Type 0 where
+  pub written : List ℕ
+  pub misfit : List ℕ
+  pub line : text ≡ rule_line found (k + 1) rule written ++ misfit
+  pub told : TellsMisfit (nat_lt k asked) misfit
+
+-- where no rule is left, with so many sequents
+abbrev pub end_text : ℕ → List ℕ
+end_text left = cond (nat_eq left 0) (codes "nothing is open: the script proves it\n") (codes "all rules fit, and the script ends here\n")
+
+-- what comes behind the first k rules
+abbrev pub TellsNext : Found → (k asked left : ℕ) → Option RawRule → List ℕ → Type 0
+TellsNext found k asked left None text = text ≡ end_text left
+TellsNext found k asked left (Some rule) text = TellsRule found k asked rule text
+
+-- what is said of an obligation without a script
+abbrev pub words_alone : Bool → List ℕ
+words_alone is_open = cond is_open (codes ", no script\n") (codes ", obvious: it needs no script\n")
+
+-- the line over it
+abbrev pub title_alone : List ℕ → Bool → List ℕ
+title_alone name is_open = name ++ words_alone is_open
+
+-- ---- obligations
+-- its name and its sequent
+abbrev pub Named : Type 0
+Named = List ℕ × Sequent
+
 -- of so many rules, how many are asked for: all, if it is not said
 abbrev pub count_asked : Option ℕ → ℕ → ℕ
 count_asked None rules = rules
 count_asked (Some at) rules = min at rules
 
--- of the rules that the script stands for those that are asked for go so far on the sequent, and what is shown is exactly what the kernel's
--- definition leaves behind them; it is told whether a sequent is left, or a rule that is asked for does not fit
-pub record ShowsAfter (dev : Development) (script : RawScript) (at : Option ℕ) (s : Sequent) (text : List ℕ) (is_open : Bool) : Type 0 where
+-- of the rules that the script stands for those that are asked for go so far on the sequent, and what is shown is exactly what the
+-- kernel's definition leaves behind them; then the next rule is told, and whether it does not fit. It is open where a sequent is left, or
+-- a rule that is asked for does not fit
+pub record ShowsAfter (dev : Development) (found : Found) (at : Option ℕ) (o : Named) (text : List ℕ) (is_open : Bool) : Type 0 where
   pub rules : List Rule
   pub table : Table
-  pub grounded : IsGrounded dev script rules table
+  pub grounded : IsGrounded dev found.script.now rules table
   pub k : ℕ
   pub left : List Sequent
-  pub furthest : IsFurthest table (take (count_asked at (length rules)) rules) s k left
+  pub furthest : IsFurthest table (take (count_asked at (length rules)) rules) o.1 k left
   pub brought : Brought
-  pub brings : IsBrought table rules s k left brought
-  pub shows : ShowsWithin table brought left text
+  pub brings : IsBrought table rules o.1 k left brought
+  pub next : List ℕ
+  pub tells : TellsNext found k (count_asked at (length rules)) (length left) (numbered_item found.script.now.rules (k + 1)) next
+  pub shows : ShowsBetween (header o.0 found k (length rules)) next table brought left text
   pub open_is : is_open ≡ (nat_lt k (count_asked at (length rules)) || nat_lt 0 (length left))
 
--- the sequent itself, of which no rule brought anything; it is told whether it needs a proof
-pub record ShowsAlone (table : Table) (s : Sequent) (text : List ℕ) (is_open : Bool) : Type 0 where
+-- the sequent itself, of which no rule brought anything. It is open where it is not obvious
+pub record ShowsAlone (table : Table) (o : Named) (text : List ℕ) (is_open : Bool) : Type 0 where
   pub brought : Brought
   pub none : brought.news ≡ 0
-  pub shows : ShowsWithin table brought (s ∷ []) text
-  pub open_is : is_open ≡ not (is_obvious s.0 s.1)
+  pub shows : ShowsBetween (title_alone o.0 is_open) [] table brought (o.1 ∷ []) text
+  pub open_is : is_open ≡ not (is_obvious o.1.0 o.1.1)
 
 -- what is open of an obligation with a script behind the rules that are asked for, and of one without a script
-abbrev pub ShowsGoal : Development → Option Found → Option ℕ → Sequent → List ℕ → Bool → Type 0
-ShowsGoal dev (Some found) at s text is_open = ShowsAfter dev found.script.now at s text is_open
-ShowsGoal dev None at s text is_open = ShowsAlone dev.table s text is_open
+abbrev pub ShowsGoal : Development → Option Found → Option ℕ → Named → List ℕ → Bool → Type 0
+ShowsGoal dev (Some found) at o text is_open = ShowsAfter dev found at o text is_open
+ShowsGoal dev None at o text is_open = ShowsAlone dev.table o text is_open

@@ -19,7 +19,7 @@ pub struct Brought {
 }
 
 /// What the last of the rules brought that go so far.
-pub(crate) fn brought(
+pub(crate) fn last_brought(
     alloc: Global,
     table: &VarTable,
     sequent: Sequent,

@@ -1,25 +1,27 @@
 //! What is open behind the rules of a script.
 
-ghost use Rattle.std.specs.Prelude.{◌≡◌, ◌<◌, ◌^◌, ◌||◌, nat_lt, [], ◌∷◌, length, map, IfOk, IfSome};
+ghost use Rattle.std.specs.Prelude.{◌≡◌, ◌+◌, ◌<◌, ◌^◌, ◌||◌, true, nat_lt, [], ◌∷◌, length, map, IfOk, IfSome};
 ghost use Rattle.bk_dev.specs.Flattened.{flattened};
+ghost use Rattle.bk_seq.specs.Paths.{numbered_item};
 ghost use Rattle.bk_seq.specs.Sequents.{sequent_of, Types, IsWithin};
+ghost use Rattle.bk_po.specs.Shown.{named_sequent};
 ghost use Rattle.bk_status.specs.Replayable.{IsReplayable};
 ghost use Rattle.bk_p_proof.specs.Files.{IsShort};
 ghost use Rattle.bk_scripts.specs.Grounding.{IsGrounded};
 ghost use Rattle.bk_goal.specs.Shown as meant;
-ghost use Rattle.bk_goal.specs.Shown.{ShowsGoal, ShowsAfter, ShowsAlone, ShowsWithin};
+ghost use Rattle.bk_goal.specs.Shown.{ShowsGoal, ShowsAfter, ShowsAlone, ShowsBetween};
+ghost use Rattle.bk_goal.specs.Shown.{TellsNext, TellsRule, TellsMisfit};
 
+use crate::around::{end_text, header_text, rule_at, rule_line, title_alone};
 use crate::asked::{Asked, Found};
-use crate::brought::{Brought, brought};
-use crate::sequents::{sequents_text, write_count};
+use crate::brought::{Brought, last_brought};
+use crate::sequents::sequents_text;
 use bk_form::VarTable;
 use bk_io::Memory;
 use bk_kernel::{Rule, is_obvious};
-use bk_places::place_of;
 use bk_raw::RawRule;
 use bk_reasons::{Words, Written, write_misfit, write_unread};
 use bk_replay::{Standing, open_after};
-use bk_rule_texts::rule_text;
 use bk_scripts::{ground, read_in};
 use bk_seq::Sequent;
 use std::alloc::Global;
@@ -38,7 +40,7 @@ pub fn goal_text(alloc: Global, asked: Asked<'_>) -> Result<GoalText, Memory>
     requires replayable { IsReplayable asked.table.now (sequent_of asked.obligation.now.sequent) }
     requires short { IfSome asked.found (λ f. IsShort f.script.now) }
     ensures { IfOk result (λ g. ShowsGoal (flattened asked.dev.now) asked.found asked.at
-        (sequent_of asked.obligation.now.sequent) g.text.items g.is_open) }
+        (named_sequent asked.obligation.now) g.text.items g.is_open) }
 {
     let sequent = again(alloc, &asked.obligation.sequent)?;
     match asked.found {
@@ -49,13 +51,13 @@ pub fn goal_text(alloc: Global, asked: Asked<'_>) -> Result<GoalText, Memory>
 
 // The obligation itself.
 fn alone(alloc: Global, asked: Asked<'_>, sequent: Sequent) -> Result<GoalText, Memory>
-    ensures { IfOk result (λ g. ShowsAlone asked.table.now (sequent_of sequent) g.text.items g.is_open) }
+    ensures { IfOk result (λ g. ShowsAlone asked.table.now (asked.obligation.now.name, sequent_of sequent) g.text.items g.is_open) }
 {
     let is_open = !is_obvious(&sequent);
-    let before = title_alone(alloc, asked, is_open)?;
+    let before = title_alone(alloc, &asked.obligation.name, is_open)?;
     let open = only(alloc, sequent)?;
     let none = Brought { old: 0, news: 0 };
-    let text = within(alloc, asked.table, &open, none, &before, &[])?;
+    let text = between(alloc, asked.table, &open, none, &before, &[])?;
     Ok(GoalText { text, is_open })
 }
 
@@ -65,20 +67,8 @@ fn only(alloc: Global, sequent: Sequent) -> Result<Vec<Sequent>, Memory>
     Ok(Vec::from_array(alloc, [sequent])?)
 }
 
-// The line over an obligation without a script.
-fn title_alone(alloc: Global, asked: Asked<'_>, is_open: bool) -> Result<Vec<u8>, Memory> {
-    let mut text = Vec::new(alloc);
-    text.extend_from_slice(asked.obligation.name.as_bytes())?;
-    text.extend_from_slice(if is_open {
-        b", no script\n"
-    } else {
-        b", obvious: it needs no script\n"
-    })?;
-    Ok(text)
-}
-
 // The sequents between two texts; what a rule brought is marked.
-fn within(
+fn between(
     alloc: Global,
     table: &VarTable,
     open: &[Sequent],
@@ -86,7 +76,8 @@ fn within(
     before: &[u8],
     behind: &[u8],
 ) -> Result<Vec<u8>, Memory>
-    ensures { IfOk result (λ text. ShowsWithin table.now brought (map sequent_of open.now) text.items) }
+    ensures { IfOk result (λ text.
+        ShowsBetween before.now behind.now table.now brought (map sequent_of open.now) text.items) }
 {
     let shown = sequents_text(alloc, table, open, brought)?;
     let mut text = Vec::from_slice(alloc, before)?;
@@ -105,8 +96,8 @@ fn behind_rules(
     requires table { asked.table.now ≡ (flattened asked.dev.now).table }
     requires replayable { IsReplayable asked.table.now (sequent_of sequent) }
     requires short { IsShort found.script.now }
-    ensures { IfOk result (λ g. ShowsAfter (flattened asked.dev.now) found.script.now asked.at
-        (sequent_of sequent) g.text.items g.is_open) }
+    ensures { IfOk result (λ g. ShowsAfter (flattened asked.dev.now) found asked.at
+        (asked.obligation.now.name, sequent_of sequent) g.text.items g.is_open) }
 {
     asked.dev.facts();
     let (rules, table) = ground(alloc, found.script, asked.dev, asked.table)?;
@@ -126,16 +117,17 @@ fn behind_grounded(
     requires types { Types table.now (sequent_of sequent) }
     requires within { IsWithin (sequent_of sequent) }
     requires countable { length rules.now < 2 ^ 32 }
-    ensures { IfOk result (λ g. ShowsAfter (flattened asked.dev.now) found.script.now asked.at
-        (sequent_of sequent) g.text.items g.is_open) }
+    ensures { IfOk result (λ g. ShowsAfter (flattened asked.dev.now) found asked.at
+        (asked.obligation.now.name, sequent_of sequent) g.text.items g.is_open) }
 {
     let count = count_asked(asked.at, rules.len());
     let before = again(alloc, &sequent)?;
     let standing = open_after(alloc, table, sequent, rules, count)?;
-    let new = brought(alloc, table, before, rules, &standing)?;
-    let header = header_text(alloc, asked, found, standing.done as usize)?;
+    let new = last_brought(alloc, table, before, rules, &standing)?;
+    let name = &asked.obligation.name;
+    let header = header_text(alloc, name, found, standing.done as usize, rules.len())?;
     let next = next_text(alloc, asked, found, rules, &standing, count)?;
-    let text = within(alloc, table, &standing.left, new, &header, &next)?;
+    let text = between(alloc, table, &standing.left, new, &header, &next)?;
     let is_open = is_left(&standing, count);
     Ok(GoalText { text, is_open })
 }
@@ -165,44 +157,6 @@ fn again(alloc: Global, sequent: &Sequent) -> Result<Sequent, Memory>
     sequent.copy(alloc)
 }
 
-// `Tally.inc.1, after rule 2 of 5 (Tally.prf:2:46)`.
-fn header_text(
-    alloc: Global,
-    asked: Asked<'_>,
-    found: Found<'_>,
-    done: usize,
-) -> Result<Vec<u8>, Memory> {
-    let mut text = Vec::new(alloc);
-    text.extend_from_slice(asked.obligation.name.as_bytes())?;
-    let rules = &found.script.rules;
-    match done.checked_sub(1) {
-        Some(last) => {
-            write_count(&mut text, b", after rule ", done)?;
-            write_count(&mut text, b" of ", rules.len())?;
-            if let Some(rule) = rules.get(last) {
-                write_place(&mut text, found, rule)?;
-            }
-        }
-        None => {
-            write_count(&mut text, b", before the first of ", rules.len())?;
-            text.extend_from_slice(b" rules")?;
-        }
-    }
-    text.extend_from_slice(b"\n")?;
-    Ok(text)
-}
-
-// ` (Tally.prf:2:46)`.
-fn write_place(text: &mut Vec<u8>, found: Found<'_>, rule: &RawRule) -> Result<(), Memory> {
-    let place = place_of(found.text, rule.at);
-    text.extend_from_slice(b" (")?;
-    text.extend_from_slice(found.file.as_bytes())?;
-    write_count(text, b":", place.line)?;
-    write_count(text, b":", place.column)?;
-    text.extend_from_slice(b")")?;
-    Ok(())
-}
-
 // The rule that comes next, and why it does not fit, where that is so: where it is one of the first so many.
 fn next_text(
     alloc: Global,
@@ -211,35 +165,61 @@ fn next_text(
     rules: &[Rule],
     standing: &Standing,
     count: usize,
-) -> Result<Vec<u8>, Memory> {
-    let mut text = Vec::new(alloc);
-    let done = standing.done as usize;
-    let Some(written) = found.script.rules.get(done) else {
-        write_end(&mut text, standing.left.len())?;
-        return Ok(text);
-    };
-    write_count(&mut text, b"rule ", done.saturating_add(1))?;
-    write_place(&mut text, found, written)?;
-    text.extend_from_slice(b": ")?;
-    text.extend_from_slice(rule_text(found.text, found.tokens, written.at))?;
-    text.extend_from_slice(b"\n")?;
-    if done < count {
-        text.extend_from_slice(b"  does not fit: ")?;
-        let reason = reason_text(alloc, asked, found, rules, standing)?;
-        text.extend_from_slice(&reason)?;
-        text.extend_from_slice(b"\n")?;
+) -> Result<Vec<u8>, Memory>
+    ensures { IfOk result (λ text. TellsNext found standing.now.done count (length (map sequent_of standing.now.left.items))
+        (numbered_item found.script.now.rules (standing.now.done + 1)) text.items) }
+{
+    match rule_at(&found.script.rules, standing.done as usize + 1) {
+        Some(rule) => rule_told(alloc, asked, found, rules, standing, count, rule),
+        None => end_text(alloc, standing.left.len()),
     }
+}
+
+// A rule, and why it does not fit.
+fn rule_told(
+    alloc: Global,
+    asked: Asked<'_>,
+    found: Found<'_>,
+    rules: &[Rule],
+    standing: &Standing,
+    count: usize,
+    rule: &RawRule,
+) -> Result<Vec<u8>, Memory>
+    ensures { IfOk result (λ text. TellsRule found standing.now.done count rule.now text.items) }
+{
+    let mut text = rule_line(alloc, found, standing.done as usize + 1, rule)?;
+    let misfit = misfit_text(alloc, asked, found, rules, standing, count)?;
+    text.extend_from_slice(&misfit)?;
     Ok(text)
 }
 
-// What stands behind the last rule.
-fn write_end(text: &mut Vec<u8>, open: usize) -> Result<(), Memory> {
-    if open == 0 {
-        text.extend_from_slice(b"nothing is open: the script proves it\n")?;
-        return Ok(());
+// Why the next rule does not fit; nothing where it is not one of the first so many.
+fn misfit_text(
+    alloc: Global,
+    asked: Asked<'_>,
+    found: Found<'_>,
+    rules: &[Rule],
+    standing: &Standing,
+    count: usize,
+) -> Result<Vec<u8>, Memory>
+    ensures { IfOk result (λ text. TellsMisfit (nat_lt standing.now.done count) text.items) }
+{
+    if count <= standing.done as usize {
+        return Ok(Vec::new(alloc));
     }
-    text.extend_from_slice(b"all rules fit, and the script ends here\n")?;
-    Ok(())
+    let reason = reason_text(alloc, asked, found, rules, standing)?;
+    reason_line(alloc, &reason)
+}
+
+// A reason in a line of its own.
+fn reason_line(alloc: Global, reason: &[u8]) -> Result<Vec<u8>, Memory>
+    ensures { IfOk result (λ text. TellsMisfit true text.items) }
+{
+    let mut text = Vec::new(alloc);
+    text.extend_from_slice(b"  does not fit: ")?;
+    text.extend_from_slice(reason)?;
+    text.extend_from_slice(b"\n")?;
+    Ok(text)
 }
 
 // Why the next rule does not fit.

@@ -1,6 +1,7 @@
 //! What is open behind the rules of a script, as a text, and why the next rule does not fit.
 #![tactic(auto)]
 
+mod around;
 mod asked;
 mod brought;
 mod goal;

@@ -1,16 +1,28 @@
--- Obligations of a list, and lists item by item.
-use Rattle.std.proofs.Common.{◌≡◌, ℕ, zero, suc, ◌+◌, ◌<◌, List, [], ◌∷◌, ◌++◌, map, take, length, get_or, sym, ◌∙◌, ap, subst, arith}
-use Rattle.std.specs.Prelude.{Contains}
+-- Obligations of a list, lists item by item, and what is answered where memory is wanting.
+use Rattle.std.proofs.Common.{◌≡◌, inl, ℕ, zero, suc, ◌+◌, ◌<◌, List, [], ◌∷◌, ◌++◌, map, take, length, get_or, refl, sym, ◌∙◌, ap, subst, arith, below_more, Option, Some, None, Result, Ok, Err, IfOk}
+use Rattle.std.specs.Prelude.{Bool, true, All, Contains, IfSome}
 use Rattle.std.specs.List.{AllZip}
 use Rattle.std.proofs.lemmas.List.{take_more}
 use Rattle.std.proofs.lemmas.Slice.Zip.{all_zipped_more}
 use Rattle.bk_form.specs.Each.{Each}
-use Rattle.bk_seq.specs.Sequents.{Sequent}
+use Rattle.bk_dev.specs.Development.{Development}
+use Rattle.bk_seq.specs.declared.sequent.Sequent.{Sequent as StoredSequent}
+use Rattle.bk_seq.specs.Sequents.{Sequent, sequent_of}
+use Rattle.bk_kernel.specs.Derivations.{Derives, IsVerdict}
+use Rattle.bk_kernel.specs.Standing.{in_order}
+use Rattle.bk_kernel.proofs.EachItem.{each-append}
+use Rattle.bk_kernel.proofs.Replayed.{first-is-last}
+use Rattle.bk_kernel.specs.declared.replaying.Verdict.{Verdict}
+use Rattle.bk_kernel.specs.declared.replaying.Verdict.TheVariants.{Closed}
 use Rattle.bk_raw.specs.Trees.ScriptTree.{RawScript}
+use Rattle.bk_p_proof.specs.Files.{AreScriptsOf}
 use Rattle.bk_po.specs.Shown.{named_sequent}
 use Rattle.bk_po.specs.declared.obligation.Obligation.{Obligation}
+use Rattle.bk_status.specs.Rows.{HasRows}
 use Rattle.bk_status.specs.declared.table.Row.{Row}
-use Rattle.bk_prune.specs.Pruned.{IsNoLonger}
+use Rattle.bk_prune.specs.Pruned.{IsNoLonger, HaveSameRows, HasStatesOf, IsPrunedFile, IsWork, ProvesOne, CountsUnproved}
+use Rattle.bk_prune.specs.declared.file.Pruned.{Pruned}
+use Rattle.bk_prune.specs.declared.work.Work.{Work}
 
 -- what holds of each holds of one of them
 module _ (P : List ℕ × Sequent → Type 0) where
@@ -21,6 +33,82 @@ module _ (P : List ℕ × Sequent → Type 0) where
 
   pub each_listed : (list : List Obligation) (o : Obligation) → Contains list o → Each P (map named_sequent list) → P (named_sequent o)
   each_listed list o l h = subst (λ x. P (named_sequent x)) l.2 (each-there list l.0 o l.1 h)
+
+-- what holds of those so far, and of one more
+any-default : {X : Type 0} (xs : List X) (i : ℕ) (d e : X) → i < length xs → get_or xs i d ≡ get_or xs i e
+any-default [] i d e l = absurd (omega arith)
+any-default (x ∷ xs) zero d e l = refl
+any-default (x ∷ xs) (suc i) d e l = any-default xs i d e (omega arith)
+
+pub all_more : {X : Type 0} (P : X → Type 0) (xs : List X) (i : ℕ) (x : X) → i < length xs → x ≡ get_or xs i x → ((k : ℕ) (d : X) → k < i → P (get_or xs k d)) → P x → (k : ℕ) (d : X) → k < i + 1 → P (get_or xs k d)
+all_more {X} P xs i x l e h p k d less = below_more (λ m. (y : X) → P (get_or xs m y)) i (λ m b y. h m y b) (λ y. subst P (e ∙ any-default xs i x y l) p) k less d
+
+pub listed_at : (list : List Obligation) (i : ℕ) (o : Obligation) → i < length list → o ≡ get_or list i o → Contains list o
+listed_at list i o l e = (i, l, sym e)
+
+-- the rules that close a sequent prove
+pub closed_proves : (dev : Development) (list : List Obligation) (script : RawScript) (work : Work) (verdict : Verdict) → IsWork dev list script work → IsVerdict work.table work.rules.items (sequent_of work.sequent) verdict → verdict ≡ Closed → ProvesOne dev list script
+closed_proves dev list script work verdict w h e =
+    let closed = subst (IsVerdict work.table work.rules.items (sequent_of work.sequent)) e h in
+    record {
+      obligation = w.obligation;
+      listed = w.listed;
+      named = w.named;
+      rules = work.rules.items;
+      table = work.table;
+      grounded = w.grounded;
+      derives = subst (Derives work.table work.rules.items) w.own closed;
+    }
+
+-- a text that stays, or memory that is wanting
+pub kept_as_it_is : {E : Type 0} (dev : Development) (text : List ℕ) (r : Result Pruned E) → IfOk r (λ p. p.text.items ≡ text) → IfOk r (λ p. IsPrunedFile dev text p.text.items)
+kept_as_it_is dev text (Ok p) h = inl h
+kept_as_it_is dev text (Err e) h = h
+
+pub counted_so : {E : Type 0} (Q : Type 0) (n : ℕ) (r : Result Pruned E) → IfOk r (λ p. p.unproved ≡ n) → (n ≡ 0 → Q) → IfOk r (λ p. p.unproved ≡ 0 → Q)
+counted_so Q n (Ok p) h q = λ zero. q (sym h ∙ zero)
+counted_so Q n (Err e) h q = h
+
+module _ {E : Type 0} (dev : Development) (list : List Obligation) (text : List ℕ) where
+  -- what is counted of the scripts that the text has
+  pub counted_of : (read : List RawScript) → ((before : List RawScript) → AreScriptsOf (text ∷ []) before → before ≡ read) → (r : Result Pruned E) → IfOk r (λ p. p.unproved ≡ 0 → All (ProvesOne dev list) read) → IfOk r (λ p. CountsUnproved dev list text p.unproved)
+  counted_of read one (Ok p) h = λ before reads zero. subst (All (ProvesOne dev list)) (sym (one before reads)) (h zero)
+  counted_of read one (Err e) h = h
+
+  -- and where it has none
+  pub counted_of_none : ((before : List RawScript) → AreScriptsOf (text ∷ []) before → ⊥) → (r : Result Pruned E) → IfOk r (λ p. CountsUnproved dev list text p.unproved)
+  counted_of_none none (Ok p) = λ before reads zero. absurd (none before reads)
+  counted_of_none none (Err e) = tt
+
+-- ---- open sequents, of which the first stands last
+module _ (P : Sequent → Type 0) (held others : List StoredSequent) (first : StoredSequent) (popped : held ≡ others ++ first ∷ []) (each : Each P (in_order held)) where
+  both : P (sequent_of first) × Each P (in_order others)
+  both = subst (Each P) (first-is-last held others first popped) each
+
+  pub each_of_first : P (sequent_of first)
+  each_of_first = both.0
+
+  pub each_placed : (news after : List StoredSequent) → in_order after ≡ map sequent_of news ++ in_order others → Each P (map sequent_of news) → Each P (in_order after)
+  each_placed news after placed new = subst (Each P) (sym placed) (each-append P (map sequent_of news) (in_order others) new both.1)
+
+-- ---- states
+pub has_states : {E : Type 0} (dev : Development) (before : List RawScript) (text : List ℕ) (after : List RawScript) → AreScriptsOf (text ∷ []) after → (r : Result Bool E) → IfOk r (λ have. have ≡ true → AllZip IsNoLonger before after) → IfOk r (λ have. have ≡ true → HaveSameRows dev before after) → IfOk r (λ has. has ≡ true → HasStatesOf dev before text)
+has_states dev before text after reads (Ok b) each same = λ yes. record { after = after; reads = reads; each = each yes; same = same yes }
+has_states dev before text after reads (Err e) each same = each
+
+pub each_too : {E : Type 0} (P Q : Type 0) (r : Result Bool E) → IfOk r (λ have. have ≡ true → P) → Q → IfOk r (λ have. have ≡ true → Q)
+each_too P Q (Ok b) h q = λ yes. q
+each_too P Q (Err e) h q = h
+
+pub has_same_rows : {E : Type 0} (dev : Development) (before after : List RawScript) (rows held : List Row) → held ≡ rows → HasRows dev before rows → (r : Result Bool E) → IfOk r (λ has. has ≡ true → HasRows dev after held) → IfOk r (λ have. have ≡ true → HaveSameRows dev before after)
+has_same_rows dev before after rows held e old (Ok b) new = λ yes. record { rows = held; rows_before = subst (HasRows dev before) (sym e) old; rows_after = new yes }
+has_same_rows dev before after rows held e old (Err x) new = new
+
+-- no scripts are found
+pub none_found : {E : Type 0} (P : List RawScript → Type 0) (r : Result (Option (List RawScript)) E) → IfOk r (λ found. found ≡ None) → IfOk r (λ found. IfSome found P)
+none_found P (Ok None) h = tt
+none_found P (Ok (Some list)) h = absurd (cc)
+none_found P (Err e) h = h
 
 -- the rows so far, and one more
 pub rows_more : (old new : List Row) (i : ℕ) (row other : Row) → i < length old → row ≡ get_or old i row → i < length new → other ≡ get_or new i other → take i new ≡ take i old → other ≡ row → take (i + 1) new ≡ take (i + 1) old

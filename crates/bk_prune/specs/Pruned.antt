@@ -25,15 +25,19 @@ pub record IsNoLonger (old new : RawScript) : Type 0 where
   pub named : name_text new.name ≡ name_text old.name
   pub shorter : length new.rules ≤ length old.rules
 
--- the text reads as scripts, each with the name of one of these and no longer, in the same order; and with them alone the status table of the
--- development is the one that these make
+-- with these scripts and with those the status table of the development is the same
+pub record HaveSameRows (dev : Development) (before after : List RawScript) : Type 0 where
+  pub rows : List Row
+  pub rows_before : HasRows dev before rows
+  pub rows_after : HasRows dev after rows
+
+-- the text reads as scripts that have the names of these, in the same order, and none of which is longer; and with them alone the status
+-- table of the development is the one that these make
 pub record HasStatesOf (dev : Development) (before : List RawScript) (text : List ℕ) : Type 0 where
   pub after : List RawScript
   pub reads : AreScriptsOf (text ∷ []) after
   pub each : AllZip IsNoLonger before after
-  pub rows : List Row
-  pub rows_before : HasRows dev before rows
-  pub rows_after : HasRows dev after rows
+  pub same : HaveSameRows dev before after
 
 -- the new text reads as scripts that prove what those of the old text proved; a text for which this does not hold stays as it is
 abbrev pub IsPrunedFile : Development → List ℕ → List ℕ → Type 0

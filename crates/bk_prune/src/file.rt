@@ -1,7 +1,7 @@
 //! Proof files without rules that nothing uses.
 
-ghost use Rattle.std.specs.Prelude.{◌≡◌, All, IfOk};
-ghost use Rattle.bk_p_proof.specs.Files.{IsShort};
+ghost use Rattle.std.specs.Prelude.{◌≡◌, true, [], ◌∷◌, All, IfOk};
+ghost use Rattle.bk_p_proof.specs.Files.{AreScriptsOf, IsShort};
 ghost use Rattle.bk_prune.specs.Pruned.{IsPrunedFile, CountsUnproved, IsReady, ProvesOne};
 
 use crate::edit::{Edit, edits};
@@ -50,19 +50,32 @@ pub fn prune_file(
         table,
         list,
     };
-    let Some(read) = scripts_of(alloc, text)? else {
-        return unchanged(alloc, text, 0);
-    };
-    let unproved = unproved_count(proved, &read)?;
-    let (shorter, gone) = shorter_text(proved, text, &read)?;
-    if has_states_of(alloc, dev, &read, &shorter)? {
+    match scripts_of(alloc, text)? {
+        Some(read) => prune_scripts(proved, text, &read),
+        None => unchanged(alloc, text, 0),
+    }
+}
+
+// The text of these scripts without rules whose results nothing uses.
+fn prune_scripts(proved: Proved<'_>, text: &[u8], read: &Scripts) -> Result<Pruned, Memory>
+    requires ready { IsReady proved.dev.now proved.table.now proved.list.now }
+    requires reads { AreScriptsOf (text.now ∷ []) read.now }
+    ensures kept { IfOk result (λ p. IsPrunedFile proved.dev.now text.now p.text.items) }
+    ensures counted { IfOk result (λ p. p.unproved ≡ 0 → All (ProvesOne proved.dev.now proved.list.now) read.now) }
+{
+    read.facts();
+    let scripts = read.all();
+    let unproved = unproved_count(proved, scripts)?;
+    let (shorter, gone) = shorter_text(proved, text, scripts)?;
+    let is_kept = has_states_of(proved.alloc, proved.dev, read, &shorter)?;
+    if is_kept {
         return Ok(Pruned {
             text: shorter,
             gone,
             unproved,
         });
     }
-    unchanged(alloc, text, unproved)
+    unchanged(proved.alloc, text, unproved)
 }
 
 fn unchanged(alloc: Global, text: &[u8], unproved: usize) -> Result<Pruned, Memory>
@@ -77,31 +90,42 @@ fn unchanged(alloc: Global, text: &[u8], unproved: usize) -> Result<Pruned, Memo
 }
 
 // How many scripts prove nothing.
-fn unproved_count(proved: Proved<'_>, read: &Scripts) -> Result<usize, Memory>
-    requires { IsReady proved.dev.now proved.table.now proved.list.now }
-    ensures { IfOk result (λ count. count ≡ 0 → All (ProvesOne proved.dev.now proved.list.now) read.now) }
+fn unproved_count(proved: Proved<'_>, scripts: &[RawScript]) -> Result<usize, Memory>
+    requires ready { IsReady proved.dev.now proved.table.now proved.list.now }
+    requires short { All IsShort scripts.now }
+    ensures { IfOk result (λ count. count ≡ 0 → All (ProvesOne proved.dev.now proved.list.now) scripts.now) }
 {
-    read.facts();
-    let scripts = read.all();
     let mut count = 0usize;
     for script in scripts {
-        if !proves(proved, script)? {
-            count = count.saturating_add(1);
-        }
+        count = count_with(count, proves(proved, script)?);
     }
     Ok(count)
 }
 
+// A count, and one more where something does not prove.
+fn count_with(count: usize, proves: bool) -> usize
+    ensures { result ≡ 0 → (count ≡ 0) × (proves ≡ true) }
+{
+    if proves {
+        count
+    } else {
+        count.saturating_add(1)
+    }
+}
+
 // The text without rules that can go, and how many are gone.
-fn shorter_text(proved: Proved<'_>, text: &[u8], read: &Scripts) -> Result<(Vec<u8>, usize), Memory>
-    requires { IsReady proved.dev.now proved.table.now proved.list.now }
+fn shorter_text(
+    proved: Proved<'_>,
+    text: &[u8],
+    scripts: &[RawScript],
+) -> Result<(Vec<u8>, usize), Memory>
+    requires ready { IsReady proved.dev.now proved.table.now proved.list.now }
+    requires short { All IsShort scripts.now }
 {
     let tokens = tokens_of(proved.alloc, text)?;
     let mut out = Vec::new(proved.alloc);
     let mut gone = 0usize;
     let mut done = 0usize;
-    read.facts();
-    let scripts = read.all();
     for (index, script) in scripts.iter().enumerate() {
         let end = end_of(scripts, index, text.len());
         out.extend_from_slice(part(text, done, script.at))?;
@@ -196,7 +220,7 @@ fn planned(
         table,
         sequent,
     } = work;
-    let Some(steps) = steps(alloc, &table, &sequent, &rules)? else {
+    let Some(steps) = steps(alloc, &table, sequent, &rules)? else {
         return Ok(None);
     };
     let fates = fates(alloc, &rules, &steps, drops)?;
@@ -233,13 +257,18 @@ fn edited(
 fn proves_alone(proved: Proved<'_>, text: &[u8]) -> Result<bool, Memory>
     requires { IsReady proved.dev.now proved.table.now proved.list.now }
 {
-    let Some(read) = scripts_of(proved.alloc, text)? else {
-        return Ok(false);
-    };
-    read.facts();
-    let scripts = read.all();
-    if scripts.len() != 1 {
-        return Ok(false);
+    match scripts_of(proved.alloc, text)? {
+        Some(read) => only_proves(proved, &read),
+        None => Ok(false),
     }
-    proves(proved, &scripts[0])
+}
+
+fn only_proves(proved: Proved<'_>, read: &Scripts) -> Result<bool, Memory>
+    requires { IsReady proved.dev.now proved.table.now proved.list.now }
+{
+    read.facts();
+    match read.all() {
+        [only] => proves(proved, only),
+        _ => Ok(false),
+    }
 }

@@ -1,16 +1,16 @@
 //! Whether a text proves what scripts prove.
 
-ghost use Rattle.std.specs.Prelude.{◌≡◌, true, List, [], ◌∷◌, Ok, None, IfOk, IfSome};
+ghost use Rattle.std.specs.Prelude.{◌≡◌, true, List, [], ◌∷◌, map, Ok, None, IfOk, IfSome};
 ghost use Rattle.std.specs.List.{AllZip};
 ghost use Rattle.bk_raw.specs.Trees.ScriptTree.{RawScript as ScriptTree};
 ghost use Rattle.bk_p_proof.specs.Files.{AreScriptsOf};
 ghost use Rattle.bk_status.specs.Rows.{HasRows};
-ghost use Rattle.bk_prune.specs.Pruned.{HasStatesOf, IsNoLonger};
+ghost use Rattle.bk_prune.specs.Pruned.{HasStatesOf, HaveSameRows, IsNoLonger};
 
 use bk_dev::Development;
 use bk_io::Memory;
-use bk_p_proof::{ScriptFault, Scripts, scripts};
 use bk_p_proof::laws::faults_exclude;
+use bk_p_proof::{ScriptFault, Scripts, scripts};
 use bk_po::PoFault;
 use bk_raw::RawScript;
 use bk_status::{Row, State, Table, name_text, status};
@@ -22,12 +22,28 @@ pub(crate) fn scripts_of(alloc: Global, text: &[u8]) -> Result<Option<Scripts>, 
     ensures none { result ≡ Ok None → (list : List ScriptTree) → AreScriptsOf (text.now ∷ []) list → ⊥ }
 {
     faults_exclude();
-    let own = Vec::from_slice(alloc, text)?;
-    let texts = Vec::from_array(alloc, [own])?;
+    let texts = one_text(alloc, text)?;
     match scripts(alloc, &texts) {
         Ok(list) => Ok(Some(list)),
-        Err(ScriptFault::Memory) => Err(Memory),
-        Err(_) => Ok(None),
+        Err(fault) => no_scripts(fault),
+    }
+}
+
+fn one_text(alloc: Global, text: &[u8]) -> Result<Vec<Vec<u8>>, Memory>
+    ensures { IfOk result (λ texts. map (λ own. own.items) texts.items ≡ text.now ∷ []) }
+{
+    let own = Vec::from_slice(alloc, text)?;
+    Ok(Vec::from_array(alloc, [own])?)
+}
+
+// What is found where there is this fault.
+fn no_scripts(fault: ScriptFault) -> Result<Option<Scripts>, Memory>
+    ensures none { IfOk result (λ found. found ≡ None) }
+    ensures fault { result ≡ Ok None → fault ≡ ScriptFault.Memory → ⊥ }
+{
+    match fault {
+        ScriptFault::Memory => Err(Memory),
+        _ => Ok(None),
     }
 }
 
@@ -41,19 +57,51 @@ pub(crate) fn has_states_of(
 ) -> Result<bool, Memory>
     ensures { IfOk result (λ has. has ≡ true → HasStatesOf dev.now before.now text.now) }
 {
-    let Some(after) = scripts_of(alloc, text)? else {
-        return Ok(false);
-    };
-    if !are_no_longer(alloc, before.all(), after.all())? {
-        return Ok(false);
+    match scripts_of(alloc, text)? {
+        Some(after) => have_states_of(alloc, dev, before, after),
+        None => Ok(false),
     }
-    let Some(old) = table_of(alloc, dev, before)? else {
-        return Ok(false);
-    };
-    let Some(new) = table_of(alloc, dev, &after)? else {
-        return Ok(false);
-    };
-    Ok(are_same(&old.rows, &new.rows))
+}
+
+// Whether scripts are no longer than the others, with the same status table.
+fn have_states_of(
+    alloc: Global,
+    dev: &Development,
+    before: &Scripts,
+    after: Scripts,
+) -> Result<bool, Memory>
+    ensures each { IfOk result (λ have. have ≡ true → AllZip IsNoLonger before.now after) }
+    ensures same { IfOk result (λ have. have ≡ true → HaveSameRows dev.now before.now after) }
+{
+    let are_short = are_no_longer(alloc, before.all(), after.all())?;
+    if are_short {
+        return have_same_rows(alloc, dev, before, &after);
+    }
+    Ok(false)
+}
+
+fn have_same_rows(
+    alloc: Global,
+    dev: &Development,
+    before: &Scripts,
+    after: &Scripts,
+) -> Result<bool, Memory>
+    ensures { IfOk result (λ have. have ≡ true → HaveSameRows dev.now before.now after.now) }
+{
+    match table_of(alloc, dev, before)? {
+        Some(old) => has_rows(alloc, dev, after, &old.rows),
+        None => Ok(false),
+    }
+}
+
+// Whether these are the rows of the status table.
+fn has_rows(alloc: Global, dev: &Development, list: &Scripts, rows: &[Row]) -> Result<bool, Memory>
+    ensures { IfOk result (λ has. has ≡ true → HasRows dev.now list.now rows.now) }
+{
+    match table_of(alloc, dev, list)? {
+        Some(table) => Ok(are_same(&table.rows, rows)),
+        None => Ok(false),
+    }
 }
 
 // Whether the second scripts have the names of the first, in the same order, and no more rules.

@@ -1,13 +1,14 @@
 //! What each rule of a proof makes.
 
-ghost use Rattle.std.specs.Prelude.{◌<◌, ◌^◌, length};
+ghost use Rattle.std.specs.Prelude.{map, IfOk, IfSome};
+ghost use Rattle.bk_form.specs.Each.{Each};
 ghost use Rattle.bk_seq.specs.Sequents.{sequent_of, Types, IsWithin};
 
 use crate::work::again;
 use bk_form::VarTable;
 use bk_io::Memory;
-use bk_kernel::Rule;
-use bk_replay::open_after;
+use bk_kernel::{Rule, StepFault};
+use bk_replay::put_first;
 use bk_seq::Sequent;
 use std::alloc::Global;
 
@@ -33,65 +34,63 @@ pub(crate) struct Part {
 pub(crate) fn steps(
     alloc: Global,
     types: &VarTable,
-    sequent: &Sequent,
+    sequent: Sequent,
     rules: &[Rule],
 ) -> Result<Option<Vec<Step>>, Memory>
-    requires types { Types types.now (sequent_of sequent.now) }
-    requires within { IsWithin (sequent_of sequent.now) }
-    requires countable { length rules.now < 2 ^ 32 }
+    requires types { Types types.now (sequent_of sequent) }
+    requires within { IsWithin (sequent_of sequent) }
 {
     let mut steps = Vec::new(alloc);
-    for done in 0..rules.len() {
-        let before = left_after(alloc, types, sequent, rules, done)?;
-        let after = left_after(alloc, types, sequent, rules, done + 1)?;
-        let Some(first) = before.first() else {
+    // the first open sequent stands last
+    let mut open = Vec::new(alloc);
+    open.push(sequent)?;
+    for rule in rules {
+        let Some(first) = open.pop() else {
             return Ok(None);
         };
-        let others = before.len().saturating_sub(1);
-        steps.push(step_of(alloc, first, &after, others)?)?;
+        let Some((made, news)) = stepped(alloc, types, first, rule)? else {
+            return Ok(None);
+        };
+        steps.push(made)?;
+        put_first(&mut open, news)?;
     }
-    if left_after(alloc, types, sequent, rules, rules.len())?.is_empty() {
+    if open.is_empty() {
         return Ok(Some(steps));
     }
     Ok(None)
 }
 
-// The sequents that are open behind so many rules.
-fn left_after(
+// What a rule makes of a sequent, and the sequents that come of it; None where it is no step.
+fn stepped(
     alloc: Global,
     types: &VarTable,
-    sequent: &Sequent,
-    rules: &[Rule],
-    count: usize,
-) -> Result<Vec<Sequent>, Memory>
-    requires types { Types types.now (sequent_of sequent.now) }
-    requires within { IsWithin (sequent_of sequent.now) }
-    requires countable { length rules.now < 2 ^ 32 }
+    sequent: Sequent,
+    rule: &Rule,
+) -> Result<Option<(Step, Vec<Sequent>)>, Memory>
+    requires types { Types types.now (sequent_of sequent) }
+    requires within { IsWithin (sequent_of sequent) }
+    ensures types { IfOk result (λ found. IfSome found (λ p. Each (Types types.now) (map sequent_of p.1.items))) }
+    ensures within { IfOk result (λ found. IfSome found (λ p. Each IsWithin (map sequent_of p.1.items))) }
 {
-    let own = again(alloc, sequent)?;
-    let standing = open_after(alloc, types, own, rules, count)?;
-    Ok(standing.left)
+    let before = again(alloc, &sequent)?;
+    match bk_kernel::step(alloc, types, sequent, rule) {
+        Ok(news) => Ok(Some((made(alloc, &before, &news)?, news))),
+        Err(StepFault::NoInstance) => Ok(None),
+        Err(StepFault::Memory) => Err(Memory),
+    }
 }
 
-// What a rule makes of this sequent; behind what comes of it there are so many others.
-fn step_of(
-    alloc: Global,
-    first: &Sequent,
-    after: &[Sequent],
-    others: usize,
-) -> Result<Step, Memory> {
-    let made = after.len().saturating_sub(others);
+// What a rule makes of this sequent, of which these come.
+fn made(alloc: Global, sequent: &Sequent, news: &[Sequent]) -> Result<Step, Memory> {
     let mut parts = Vec::new(alloc);
-    for (index, sequent) in after.iter().enumerate() {
-        if index < made {
-            parts.push(Part {
-                hyps: sequent.hyps.len(),
-                keeps_goal: sequent.goal.equal(&first.goal),
-            })?;
-        }
+    for new in news {
+        parts.push(Part {
+            hyps: new.hyps.len(),
+            keeps_goal: new.goal.equal(&sequent.goal),
+        })?;
     }
     Ok(Step {
-        hyps: first.hyps.len(),
+        hyps: sequent.hyps.len(),
         parts,
     })
 }

@@ -55,6 +55,7 @@ pub(crate) fn work_of(proved: Proved<'_>, script: &RawScript) -> Result<Option<W
 }
 
 // The first obligation with this name.
+#[tactic(auto, using(crate::proofs::Ready::listed_at))]
 fn named<'a>(list: &'a [Obligation], name: &[u8]) -> Option<&'a Obligation>
     ensures { IfSome result (λ o. Contains list.now o.now × (o.now.name ≡ name.now)) }
 {

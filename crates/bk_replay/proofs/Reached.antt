@@ -58,6 +58,10 @@ module _ {E : Type 0} (table : Table) (rules : List Rule) (s : Sequent) (i : ℕ
       at-number table rules s (map sequent_of st.left.items) i st.done done (stops_here table rules s i rule is_rule less held others first popped reached never (map sequent_of st.left.items) (left ∙ ap (λ b. b ∷ in_order others) same))
   stopped_there reached never before same (Err e) done left = done
 
+-- none is held
+pub none_held : (held : List StoredSequent) → held ≡ [] → in_order held ≡ []
+none_held held e = ap in_order e
+
 -- and where none is open, or no further rule is there
 pub ended_there : (table : Table) (rules : List Rule) (s : Sequent) (i : ℕ) (there : List Sequent) (st : Standing) → Leaves table (s ∷ []) (take i rules) there → there ≡ [] → i < length rules → st.done ≡ i → map sequent_of st.left.items ≡ there → IsFurthest table rules s st.done (map sequent_of st.left.items)
 ended_there table rules s i there st h n l done left = at-number table rules s (map sequent_of st.left.items) i st.done done (none_left table rules s i there (map sequent_of st.left.items) h left n l)

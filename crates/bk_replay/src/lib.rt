@@ -4,4 +4,4 @@
 pub mod laws;
 mod standing;
 
-pub use standing::{Standing, furthest, open_after, verdict_of};
+pub use standing::{Standing, furthest, open_after, put_first, verdict_of};

@@ -115,8 +115,8 @@ fn at_end(open: &[Sequent]) -> Verdict
     Verdict::Open(u32::try_from(open.len()).unwrap_or(u32::MAX))
 }
 
-// Puts the new sequents before the open ones, of which the first stands last.
-fn put_first(open: &mut Vec<Sequent>, mut news: Vec<Sequent>) -> Result<(), Memory>
+/// Puts the new sequents before the open ones, of which the first stands last.
+pub fn put_first(open: &mut Vec<Sequent>, mut news: Vec<Sequent>) -> Result<(), Memory>
     ensures { OnOk result (in_order open.new.items ≡ map sequent_of news.items ++ in_order open.old.items) }
 {
     while let Some(last) = news.pop() {

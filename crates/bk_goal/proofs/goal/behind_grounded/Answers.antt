@@ -1,12 +1,14 @@
 use Rattle.std.proofs.Common.{map, take, length, nat_lt, sym, ◌∙◌, ap, subst}
-use Rattle.std.specs.Prelude.{◌||◌}
+use Rattle.std.specs.Prelude.{◌||◌, ◌+◌}
+use Rattle.bk_seq.specs.Paths.{numbered_item}
 use Rattle.bk_seq.specs.Sequents.{Types, IsWithin, sequent_of}
 use Rattle.bk_replay.specs.Standing.{IsFurthest}
-use Rattle.bk_goal.specs.Shown.{IsBrought, ShowsWithin}
+use Rattle.bk_goal.specs.Shown.{IsBrought, ShowsBetween, TellsNext}
+use Rattle.bk_goal.proofs.Lines.{put_between}
 use Rattle.bk_goal.proofs.goal.behind_grounded.Goals as goal
 
-pub brought-requires : goal.brought-requires
-brought-requires c = record {
+pub last_brought-requires : goal.last_brought-requires
+last_brought-requires c = record {
   types = subst (Types c.args.table.now) (sym c.in_ok-before.ensures) c.requires.types;
   within = subst IsWithin (sym c.in_ok-before.ensures) c.requires.within;
   countable = c.requires.countable;
@@ -17,17 +19,22 @@ returns c =
     let s = sequent_of c.args.sequent in
     let rules = c.args.rules.now in
     let table = c.args.table.now in
+    let found = c.args.found in
     let st = c.in_ok-standing.standing in
     let left = map sequent_of st.left.items in
+    let next = c.in_ok-next.next.items in
+    let asked = c.count_asked-count.ensures in
     record {
       rules = rules;
       table = table;
       grounded = c.requires.grounded;
       k = st.done;
       left = left;
-      furthest = subst (λ n. IsFurthest table (take n rules) s st.done left) c.count_asked-count.ensures c.in_ok-standing.ensures.furthest;
+      furthest = subst (λ n. IsFurthest table (take n rules) s st.done left) asked c.in_ok-standing.ensures.furthest;
       brought = c.in_ok-new.new;
       brings = subst (λ t. IsBrought table rules t st.done left c.in_ok-new.new) c.in_ok-before.ensures c.in_ok-new.ensures;
-      shows = subst (λ held. ShowsWithin table c.in_ok-new.new (map sequent_of held) c.in_ok-text.text.items) c.deref.ensures.value c.in_ok-text.ensures;
-      open_is = c.is_left.ensures ∙ ap (λ n. nat_lt st.done n || nat_lt 0 (length left)) c.count_asked-count.ensures;
+      next = next;
+      tells = subst (λ n. TellsNext found st.done n (length left) (numbered_item found.script.now.rules (st.done + 1)) next) asked c.in_ok-next.ensures;
+      shows = put_between table c.in_ok-new.new c.in_ok-text.text.items c.deref-2.ensures.value c.in_ok-header.ensures c.deref-3.ensures.value c.deref.ensures.value c.in_ok-text.ensures;
+      open_is = c.is_left-is_open.ensures ∙ ap (λ n. nat_lt st.done n || nat_lt 0 (length left)) asked;
     }

@@ -1,9 +1,17 @@
-use Rattle.std.proofs.Common.{Err, ap}
+use Rattle.std.proofs.Common.{◌≡◌, [], Err, sym, ◌∙◌, ap, arith}
+use Rattle.std.proofs.lemmas.List.{nil_from_length}
 use Rattle.bk_seq.specs.Sequents.{sequent_of}
 use Rattle.bk_kernel.specs.Standing.{in_order}
 use Rattle.bk_kernel.proofs.Replayed.{Stands, advanced}
-use Rattle.bk_replay.proofs.Reached.{stopped_there, done_there}
+use Rattle.bk_replay.proofs.Reached.{none_held, stopped_there, ended_there, done_there}
 use Rattle.bk_replay.proofs.standing.furthest.Goals as goal
+
+pub returns-in_default : goal.returns-in_default
+returns-in_default c =
+    let l = c.loop-index in
+    let none : in_order l.open.items ≡ [] = none_held l.open.items (nil_from_length l.open.items (omega (arith, c.in_default.ensures.cases.0, l.open.ok.0))) in
+    let rest : in_order c.pop.new.self.items ≡ [] = none_held c.pop.new.self.items (nil_from_length c.pop.new.self.items (omega (arith, c.in_default.ensures.cases.1, c.pop.new.self.ok.0))) in
+    ended_there c.args.types.now c.args.rules.now (sequent_of c.args.sequent) l.index (in_order l.open.items) c.reversed.result l.invariant.reached none c.loop-index-test.true c.reversed.ensures.done (c.reversed.ensures.left ∙ rest ∙ sym none)
 
 pub returns-in-Err-NoInstance : goal.returns-in-Err-NoInstance
 returns-in-Err-NoInstance c =

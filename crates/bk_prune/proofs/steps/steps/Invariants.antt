@@ -1,0 +1,10 @@
+use Rattle.bk_form.specs.Each.{Each}
+use Rattle.bk_seq.specs.Sequents.{Types, IsWithin}
+use Rattle.bk_kernel.specs.Standing.{in_order}
+use Rattle.bk_prune.proofs.steps.steps.Given as goal
+
+abbrev pub invariant-loop-rule : goal.invariant-loop-rule
+invariant-loop-rule l = record {
+  type : Each (Types l.types) (in_order l.open.items);
+  within : Each IsWithin (in_order l.open.items);
+}
