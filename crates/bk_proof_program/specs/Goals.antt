@@ -25,7 +25,7 @@ abbrev pub ShowsNamed : Development → List RawScript → (name : List ℕ) →
 ShowsNamed dev scripts name at None text status = status ≡ Usage
 ShowsNamed dev scripts name at (Some o) text status = (found : Option Found) × (is_open : Bool) ×
     (option_map (λ f. f.script.now) found ≡ script_named scripts name) ×
-    ShowsGoal (flattened dev) found at o.1 text is_open × (status ≡ status_by is_open)
+    ShowsGoal (flattened dev) found at o text is_open × (status ≡ status_by is_open)
 
 -- that is so of what the files tell
 pub record IsGoalOf (files : Files) (project name : List ℕ) (at : Option ℕ) (text : List ℕ) (status : Status) : Type 0 where
