@@ -1,6 +1,6 @@
 //! Obligations with their origins and states.
 
-ghost use Rattle.std.specs.Prelude.{◌≡◌, ◌++◌, decimal, map, IfOk, OnOk};
+ghost use Rattle.std.specs.Prelude.{◌≡◌, ◌&&◌, ◌++◌, decimal, map, IfOk, OnOk};
 ghost use Rattle.bk_status.specs.Rows as meant;
 ghost use Rattle.bk_report.specs.Table.{state_text};
 ghost use Rattle.bk_evidence.specs.Items.{row_of};
@@ -162,6 +162,13 @@ pub(crate) fn is_settled(state: State) -> bool
     ensures { result ≡ meant.is_settled state }
 {
     matches!(state, State::Obvious | State::Proved)
+}
+
+/// Whether an obligation is settled, where those are asked that are open.
+pub(crate) fn is_left_out(item: &Item, is_open_only: bool) -> bool
+    ensures { result ≡ (is_open_only && meant.is_settled item.now.state) }
+{
+    is_open_only && is_settled(item.state)
 }
 
 /// How far an obligation is proved, in words.

@@ -7,7 +7,7 @@ ghost use Rattle.serde_json.specs.View.{view, members_view};
 ghost use Rattle.bk_evidence.specs.Json.{text_data, count_data, script_data, place_members, item_data, asked_data, items_data};
 ghost use Rattle.bk_evidence.specs.Json.{input_data, inputs_data, texts_data, sums_data, report_data};
 
-use crate::item::{Item, Script, is_settled, write_state};
+use crate::item::{Item, Script, is_left_out, write_state};
 use crate::report::{Input, Report};
 use crate::sums::{Sums, sums_of};
 use bk_io::{Memory, Text};
@@ -101,7 +101,7 @@ fn push_if_asked(
 ) -> Result<(), Memory>
     ensures { OnOk result (map view list.new.items ≡ map view list.old.items ++ asked_data is_open_only item.now) }
 {
-    if is_open_only && is_settled(item.state) {
+    if is_left_out(item, is_open_only) {
         return Ok(());
     }
     list.push(item_value(alloc, item)?)?;

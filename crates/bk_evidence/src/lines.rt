@@ -3,7 +3,7 @@
 ghost use Rattle.std.specs.Prelude.{◌≡◌, ◌++◌, IfOk, OnOk};
 ghost use Rattle.bk_evidence.specs.Lines as texts;
 
-use crate::item::{Item, Script, is_settled, write_count, write_state};
+use crate::item::{Item, Script, is_left_out, write_count, write_state};
 use crate::report::{Input, Report};
 use crate::sums::{Sums, sums_of};
 use bk_io::Memory;
@@ -33,7 +33,7 @@ pub fn list_text(alloc: Global, items: &[Item], is_open_only: bool) -> Result<Ve
 fn write_if_asked(text: &mut Vec<u8>, item: &Item, is_open_only: bool) -> Result<(), AllocError>
     ensures { OnOk result (text.new.items ≡ text.old.items ++ texts.asked_line is_open_only item.now) }
 {
-    if is_open_only && is_settled(item.state) {
+    if is_left_out(item, is_open_only) {
         return Ok(());
     }
     write_item(text, item)
