@@ -5,6 +5,9 @@ use Rattle.std.proofs.lemmas.List.{take_all}
 use Rattle.bk_raw.specs.Trees.ScriptTree.{RawScript}
 use Rattle.bk_status.specs.States.{name_text, script_named}
 
+is_there : (s : RawScript) → Some s ≡ None → ⊥
+is_there s e = cc
+
 module _ (name : List ℕ) where
   abbrev is : RawScript → Bool
   is s = bytes_eq name (name_text s.name)
@@ -27,7 +30,7 @@ module _ (name : List ℕ) where
   first (s ∷ ss) (suc i) d l e h = passing (is s) refl h
     where
       passing : (b : Bool) → is s ≡ b → cond b (Some s) (script_named (take i ss) name) ≡ None → Some (get_or ss i d) ≡ cond b (Some s) (script_named ss name)
-      passing true k m = elim m [ ]
+      passing true k m = absurd (is_there s m)
       passing false k m = first ss i d (omega arith) e m
 
 -- ---- as a loop over them has it
