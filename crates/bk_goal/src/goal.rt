@@ -179,7 +179,7 @@ fn next_text(
     ensures { IfOk result (λ text. TellsNext found standing.now.done count (length (map sequent_of standing.now.left.items))
         (numbered_item found.script.now.rules (standing.now.done + 1)) text.items) }
 {
-    match rule_at(&found.script.rules, standing.done as usize + 1) {
+    match rule_at(found.script, standing.done as usize + 1) {
         Some(rule) => rule_told(alloc, asked, found, rules, standing, count, rule),
         None => end_text(alloc, standing.left.len()),
     }
