@@ -39,7 +39,8 @@ pub fn furthest(
     open.push(sequent)?;
     for (index, rule) in rules.iter().enumerate() {
         let Some(first) = open.pop() else {
-            return Ok(reversed(index as u32, open));
+            let closed = reversed(index as u32, open);
+            return Ok(closed);
         };
         let before = again(alloc, &first)?;
         match step(alloc, types, first, rule) {
@@ -48,7 +49,8 @@ pub fn furthest(
             Err(StepFault::Memory) => return Err(Memory),
         }
     }
-    Ok(reversed(rules.len() as u32, open))
+    let whole = reversed(rules.len() as u32, open);
+    Ok(whole)
 }
 
 /// What is open behind the first rules, where so many are steps; else behind as many as are.
