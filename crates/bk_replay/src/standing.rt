@@ -145,6 +145,7 @@ fn stopped(done: u32, mut open: Vec<Sequent>, first: Sequent) -> Result<Standing
 }
 
 // The standing with these sequents, of which the first stands last.
+#[tactic(auto, using(crate::proofs::Reached::in_order_reversed))]
 fn reversed(done: u32, mut open: Vec<Sequent>) -> Standing
     ensures done { result.done ≡ done }
     ensures left { map sequent_of result.left.items ≡ in_order open.items }
