@@ -1,5 +1,5 @@
 -- Texts that differ in blanks and line ends alone.
-use Rattle.std.proofs.Common.{◌≡◌, ℕ, ◌<◌, ◌+◌, List, [], ◌∷◌, ◌++◌, take, length, get_or, map, refl, sym, ◌∙◌, ap, subst, arith, Result, Ok, Err, IfOk}
+use Rattle.std.proofs.Common.{◌≡◌, ℕ, ◌<◌, ◌+◌, List, [], ◌∷◌, ◌++◌, take, length, get_or, map, refl, sym, ◌∙◌, ap, subst, arith}
 use Rattle.std.proofs.lemmas.List.{take_more, take_all, map-append}
 use Rattle.bk_form.specs.declared.token.Token.{Token}
 use Rattle.bk_form.specs.declared.token.TokenKind.{TokenKind}
@@ -21,13 +21,3 @@ laid_by_tokens one text laid tokens others h g s k = record {
 -- one token more
 pub kinds_more : (ts : List Token) (i : ℕ) (t : Token) → i < length ts → t ≡ get_or ts i t → kinds (take (i + 1) ts) ≡ kinds (take i ts) ++ t.kind ∷ []
 kinds_more ts i t l e = ap kinds (take_more ts i t l) ∙ map-append (λ (x : Token). x.kind) (take i ts) (get_or ts i t ∷ []) ∙ ap (λ x. kinds (take i ts) ++ x.kind ∷ []) (sym e)
-
--- what holds of an answer where something cannot be
-pub never : {V E : Type 0} (P : Type 0) (Q : V → Type 0) (r : Result V E) → (P → ⊥) → IfOk r (λ v. P → Q v)
-never P Q (Ok v) no = λ p. absurd (no p)
-never P Q (Err e) no = tt
-
--- and where it holds at all
-pub always : {V E : Type 0} (P : Type 0) (Q : V → Type 0) (r : Result V E) → IfOk r (λ v. Q v) → IfOk r (λ v. P → Q v)
-always P Q (Ok v) h = λ p. h
-always P Q (Err e) h = h

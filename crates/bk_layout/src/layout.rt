@@ -17,7 +17,7 @@ use std::alloc::Global;
 /// ends between its tokens are all that differs. A text that fits into a line stays as it is, and so does one that has no tokens.
 pub fn laid_out(alloc: Global, text: &[u8], width: usize, indent: usize) -> Result<Vec<u8>, Memory>
     ensures laid { IfOk result (λ laid. IsLaidOut text.now laid.items) }
-    ensures short { IfOk result (λ laid. indent + length text.now ≤ width → laid.items ≡ text.now) }
+    ensures short { indent + length text.now ≤ width → IfOk result (λ laid. laid.items ≡ text.now) }
 {
     if indent.saturating_add(text.len()) <= width {
         return as_it_is(alloc, text);
