@@ -10,7 +10,7 @@ returns c =
     let last = c.in_ok-extend_from_slice-2.ensures.items ∙ ap (λ xs. c.extend_from_slice.new.self.items ++ xs) c.deref-2.ensures.value in
     record {
       laid = laid;
-      is_laid = subst (λ t. IsLaidOut t laid) (c.deref.ensures.value ∙ c.in_ok-shown.ensures) c.in_ok-text.ensures;
+      is_laid = subst (λ t. IsLaidOut t laid) (c.deref.ensures.value ∙ c.in_ok-shown.ensures) c.in_ok-text.ensures.laid;
       names = names;
       tells = c.in_ok-names.ensures;
       ends = joined laid c.extend_from_slice.new.self.items c.extend_from_slice-2.new.self.items laid (codes "\n") names refl c.in_ok-extend_from_slice.ensures.items last;
