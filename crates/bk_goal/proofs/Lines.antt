@@ -22,18 +22,18 @@ titled_by one two three new a b c d e f g h = h ∙ ap (λ t. t ++ d) (joined on
 pub is_less : (m n : ℕ) → m < n → nat_lt m n ≡ true
 is_less m n h = grind (arith, nat_tests)
 
-is_some : (k : ℕ) → 0 < k → nat_eq k 0 ≡ false
-is_some k h = grind (arith, nat_tests)
+is_more : (k : ℕ) → 0 < k → nat_eq k 0 ≡ false
+is_more k h = grind (arith, nat_tests)
 
 -- the title behind some rules
 pub title_of_some : (name : List ℕ) (k rules : ℕ) (text : List ℕ) → 0 < k → text ≡ name ++ (codes ", after rule " ++ decimal k) ++ (codes " of " ++ decimal rules) → text ≡ title name k rules
 title_of_some name k rules text h e =
-    e ∙ sym (ap (λ b. cond b (name ++ (codes ", before the first of " ++ decimal rules) ++ codes " rules") (name ++ (codes ", after rule " ++ decimal k) ++ (codes " of " ++ decimal rules))) (is_some k h))
+    e ∙ sym (ap (λ b. cond b (name ++ (codes ", before the first of " ++ decimal rules) ++ codes " rules") (name ++ (codes ", after rule " ++ decimal k) ++ (codes " of " ++ decimal rules))) (is_more k h))
 
 -- what is shown between two texts, which are written
-pub put_between : (table : Table) (brought : Brought) {before title behind next : List ℕ} {held left : List StoredSequent} (text : List ℕ) {words : List ℕ} → before ≡ title → title ≡ words → behind ≡ next → held ≡ left →
+pub put_between : (table : Table) (brought : Brought) {before front behind next : List ℕ} {held left : List StoredSequent} (text : List ℕ) {words : List ℕ} → before ≡ front → front ≡ words → behind ≡ next → held ≡ left →
     ShowsBetween before behind table brought (map sequent_of held) text → ShowsBetween words next table brought (map sequent_of left) text
-put_between table brought {before} {title} {behind} {next} {held} {left} text {words} e f g h shows =
+put_between table brought {before} {front} {behind} {next} {held} {left} text {words} e f g h shows =
     let first = subst (λ t. ShowsBetween t behind table brought (map sequent_of held) text) (e ∙ f) shows in
     let second = subst (λ t. ShowsBetween words t table brought (map sequent_of held) text) g first in
     subst (λ ss. ShowsBetween words next table brought (map sequent_of ss) text) h second

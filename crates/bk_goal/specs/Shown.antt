@@ -1,5 +1,5 @@
 -- Texts that show the sequents which rules leave open.
-use Rattle.std.specs.Prelude.{◌≡◌, ◌+◌, ◌-◌, ℕ, suc, min, nat_lt, nat_eq, Bool, true, false, ◌||◌, not, cond}
+use Rattle.std.specs.Prelude.{◌≡◌, ◌⊎◌, ◌+◌, ◌-◌, ℕ, suc, min, nat_lt, nat_eq, Bool, true, false, ◌||◌, not, cond}
 use Rattle.std.specs.Prelude.{List, [], ◌∷◌, ◌++◌, take, length, Option, Some, None, codes, decimal}
 use Rattle.bk_form.specs.Formula.{Formula}
 use Rattle.bk_form.specs.Table.{Table}
@@ -18,11 +18,17 @@ use Rattle.bk_goal.specs.declared.asked.Found.{Found}
 use Rattle.bk_goal.specs.declared.brought.Brought.{Brought}
 
 -- ---- sequents
--- the text of a formula as it is printed, in lines, and a line end
+-- a line of words on what its bound variables are called, or nothing
+abbrev pub TellsNames : List ℕ → Type 0
+TellsNames line = (line ≡ []) ⊎ ((words : List ℕ) × (line ≡ codes "        where " ++ words ++ codes "\n"))
+
+-- the text of a formula as it is printed, in lines, and what its bound variables are called
 pub record ShowsFormula (table : Table) (f : Formula) (text : List ℕ) : Type 0 where
   pub laid : List ℕ
   pub is_laid : IsLaidOut (shown table f) laid
-  pub ends : text ≡ laid ++ codes "\n"
+  pub names : List ℕ
+  pub tells : TellsNames names
+  pub ends : text ≡ laid ++ codes "\n" ++ names
 
 -- the mark before a hypothesis of a sequent that a rule made, which has those with greater numbers than this of that rule
 abbrev pub mark_of : Option ℕ → ℕ → List ℕ

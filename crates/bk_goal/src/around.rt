@@ -10,7 +10,7 @@ use crate::asked::Found;
 use crate::sequents::write_count;
 use bk_io::{Memory, Text};
 use bk_places::place_of;
-use bk_raw::RawRule;
+use bk_raw::{RawRule, RawScript};
 use bk_rule_texts::rule_text;
 use std::alloc::Global;
 
@@ -86,25 +86,37 @@ fn title_after(alloc: Global, name: &Text, done: usize, rules: usize) -> Result<
 fn place_behind(alloc: Global, found: Found<'_>, number: usize) -> Result<Vec<u8>, Memory>
     ensures { IfOk result (λ text. text.items ≡ place_of_rule found (numbered_item found.script.now.rules number)) }
 {
-    match rule_at(&found.script.rules, number) {
+    match rule_at(found.script, number) {
         Some(rule) => place_text(alloc, found, rule),
         None => Ok(Vec::new(alloc)),
     }
 }
 
-/// The rule with this number, from 1.
-pub(crate) fn rule_at(rules: &[RawRule], number: usize) -> Option<&RawRule>
+/// The rule of a script with this number, from 1.
+pub(crate) fn rule_at(script: &RawScript, number: usize) -> Option<&RawRule>
+    ensures { option_copied result ≡ numbered_item script.now.rules number }
+{
+    numbered(&script.rules, number)
+}
+
+fn numbered(rules: &[RawRule], number: usize) -> Option<&RawRule>
     ensures { option_copied result ≡ numbered_item rules.now number }
 {
     let index = number.checked_sub(1)?;
     rules.get(index)
 }
 
-// ` (Tally.prf:2:46)`.
 fn place_text(alloc: Global, found: Found<'_>, rule: &RawRule) -> Result<Vec<u8>, Memory>
     ensures { IfOk result (λ text. text.items ≡ place_of_rule found (Some rule.now)) }
 {
-    let place = place_of(found.text, rule.at);
+    text_of_place(alloc, found, rule.at)
+}
+
+// ` (Tally.prf:2:46)`.
+fn text_of_place(alloc: Global, found: Found<'_>, at: usize) -> Result<Vec<u8>, Memory>
+    ensures { IfOk result (λ text. text.items ≡ meant.place_text found.file.now found.text.now at) }
+{
+    let place = place_of(found.text, at);
     let mut text = Vec::from_slice(alloc, b" (")?;
     text.extend_from_slice(found.file.as_bytes())?;
     write_count(&mut text, b":", place.line)?;

@@ -1,5 +1,6 @@
 //! What is asked.
 
+use crate::names::Note;
 use bk_dev::Development;
 use bk_form::{Token, VarTable};
 use bk_po::Obligation;
@@ -22,6 +23,8 @@ pub struct Asked<'a> {
     pub table: &'a VarTable,
     pub obligation: &'a Obligation,
     pub found: Option<Found<'a>>,
+    /// What the texts of the components call bound variables.
+    pub notes: &'a [Note],
     /// Behind which rule the sequents are shown; where it is not said, behind the last one that fits.
     pub at: Option<usize>,
 }

@@ -15,6 +15,7 @@ ghost use Rattle.bk_goal.specs.Shown.{TellsNext, TellsRule, TellsMisfit};
 use crate::around::{end_text, header_text, rule_at, rule_line, title_alone};
 use crate::asked::{Asked, Found};
 use crate::brought::{Brought, last_brought};
+use crate::names::Note;
 use crate::sequents::sequents_text;
 use bk_form::VarTable;
 use bk_io::Memory;
@@ -57,7 +58,7 @@ fn alone(alloc: Global, asked: Asked<'_>, sequent: Sequent) -> Result<GoalText, 
     let before = title_alone(alloc, &asked.obligation.name, is_open)?;
     let open = only(alloc, sequent)?;
     let none = Brought { old: 0, news: 0 };
-    let text = between(alloc, asked.table, &open, none, &before, &[])?;
+    let text = between(alloc, asked.table, asked.notes, &open, none, &before, &[])?;
     Ok(GoalText { text, is_open })
 }
 
@@ -71,6 +72,7 @@ fn only(alloc: Global, sequent: Sequent) -> Result<Vec<Sequent>, Memory>
 fn between(
     alloc: Global,
     table: &VarTable,
+    notes: &[Note],
     open: &[Sequent],
     brought: Brought,
     before: &[u8],
@@ -79,7 +81,7 @@ fn between(
     ensures { IfOk result (λ text.
         ShowsBetween before.now behind.now table.now brought (map sequent_of open.now) text.items) }
 {
-    let shown = sequents_text(alloc, table, open, brought)?;
+    let shown = sequents_text(alloc, table, notes, open, brought)?;
     let mut text = Vec::from_slice(alloc, before)?;
     text.extend_from_slice(&shown)?;
     text.extend_from_slice(behind)?;
@@ -127,7 +129,15 @@ fn behind_grounded(
     let name = &asked.obligation.name;
     let header = header_text(alloc, name, found, standing.done as usize, rules.len())?;
     let next = next_text(alloc, asked, found, rules, &standing, count)?;
-    let text = between(alloc, table, &standing.left, new, &header, &next)?;
+    let text = between(
+        alloc,
+        table,
+        asked.notes,
+        &standing.left,
+        new,
+        &header,
+        &next,
+    )?;
     let is_open = is_left(&standing, count);
     Ok(GoalText { text, is_open })
 }
@@ -169,7 +179,7 @@ fn next_text(
     ensures { IfOk result (λ text. TellsNext found standing.now.done count (length (map sequent_of standing.now.left.items))
         (numbered_item found.script.now.rules (standing.now.done + 1)) text.items) }
 {
-    match rule_at(&found.script.rules, standing.done as usize + 1) {
+    match rule_at(found.script, standing.done as usize + 1) {
         Some(rule) => rule_told(alloc, asked, found, rules, standing, count, rule),
         None => end_text(alloc, standing.left.len()),
     }

@@ -5,9 +5,11 @@ mod around;
 mod asked;
 mod brought;
 mod goal;
+mod names;
 mod sequents;
 
 pub use asked::{Asked, Found};
 pub use brought::Brought;
 pub use goal::{GoalText, goal_text};
+pub use names::{Note, notes};
 pub use sequents::sequents_text;

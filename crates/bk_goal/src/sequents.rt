@@ -3,9 +3,10 @@
 ghost use Rattle.std.specs.Prelude.{◌≡◌, ◌++◌, decimal, map, IfOk, OnOk};
 ghost use Rattle.bk_seq.specs.Sequents.{sequent_of};
 ghost use Rattle.bk_goal.specs.Shown as meant;
-ghost use Rattle.bk_goal.specs.Shown.{ShowsSequents, ShowsTitled, ShowsSequent, ShowsHypotheses, ShowsHypothesis, ShowsFormula};
+ghost use Rattle.bk_goal.specs.Shown.{ShowsSequents, ShowsTitled, ShowsSequent, ShowsHypotheses, ShowsHypothesis, ShowsFormula, TellsNames};
 
 use crate::brought::Brought;
+use crate::names::{Note, words_for};
 use bk_form::{Form, VarTable};
 use bk_io::Memory;
 use bk_layout::laid_out;
@@ -25,6 +26,7 @@ const INDENT: usize = 8;
 pub fn sequents_text(
     alloc: Global,
     table: &VarTable,
+    notes: &[Note],
     open: &[Sequent],
     brought: Brought,
 ) -> Result<Vec<u8>, Memory>
@@ -33,7 +35,7 @@ pub fn sequents_text(
     let mut text = Vec::new(alloc);
     for (index, sequent) in open.iter().enumerate() {
         let old = old_at(brought, index + 1);
-        let block = titled_text(alloc, table, sequent, old, index + 1, open.len())?;
+        let block = titled_text(alloc, table, notes, sequent, old, index + 1, open.len())?;
         text.extend_from_slice(&block)?;
     }
     Ok(text)
@@ -54,6 +56,7 @@ fn old_at(brought: Brought, number: usize) -> Option<usize>
 fn titled_text(
     alloc: Global,
     table: &VarTable,
+    notes: &[Note],
     sequent: &Sequent,
     old: Option<usize>,
     number: usize,
@@ -61,7 +64,7 @@ fn titled_text(
 ) -> Result<Vec<u8>, Memory>
     ensures { IfOk result (λ text. ShowsTitled table.now old number count (sequent_of sequent.now) text.items) }
 {
-    let lines = sequent_text(alloc, table, sequent, old)?;
+    let lines = sequent_text(alloc, table, notes, sequent, old)?;
     let mut text = Vec::new(alloc);
     write_count(&mut text, b"sequent ", number)?;
     write_count(&mut text, b" of ", count)?;
@@ -74,13 +77,14 @@ fn titled_text(
 fn sequent_text(
     alloc: Global,
     table: &VarTable,
+    notes: &[Note],
     sequent: &Sequent,
     old: Option<usize>,
 ) -> Result<Vec<u8>, Memory>
     ensures { IfOk result (λ text. ShowsSequent table.now old (sequent_of sequent.now) text.items) }
 {
-    let goal = formula_text(alloc, table, &sequent.goal)?;
-    let mut text = hypotheses_text(alloc, table, &sequent.hyps, old)?;
+    let goal = formula_text(alloc, table, notes, &sequent.goal)?;
+    let mut text = hypotheses_text(alloc, table, notes, &sequent.hyps, old)?;
     text.extend_from_slice(b"  goal: ")?;
     text.extend_from_slice(&goal)?;
     Ok(text)
@@ -90,6 +94,7 @@ fn sequent_text(
 fn hypotheses_text(
     alloc: Global,
     table: &VarTable,
+    notes: &[Note],
     hyps: &[Form],
     old: Option<usize>,
 ) -> Result<Vec<u8>, Memory>
@@ -97,7 +102,7 @@ fn hypotheses_text(
 {
     let mut text = Vec::new(alloc);
     for (index, hypothesis) in hyps.iter().enumerate() {
-        let line = hypothesis_text(alloc, table, hypothesis, old, index + 1)?;
+        let line = hypothesis_text(alloc, table, notes, hypothesis, old, index + 1)?;
         text.extend_from_slice(&line)?;
     }
     Ok(text)
@@ -107,13 +112,14 @@ fn hypotheses_text(
 fn hypothesis_text(
     alloc: Global,
     table: &VarTable,
+    notes: &[Note],
     hypothesis: &Form,
     old: Option<usize>,
     number: usize,
 ) -> Result<Vec<u8>, Memory>
     ensures { IfOk result (λ text. ShowsHypothesis table.now old number hypothesis.now text.items) }
 {
-    let formula = formula_text(alloc, table, hypothesis)?;
+    let formula = formula_text(alloc, table, notes, hypothesis)?;
     let mark = mark_of(old, number);
     let mut text = Vec::new(alloc);
     write_count(&mut text, mark, number)?;
@@ -132,14 +138,34 @@ fn mark_of(old: Option<usize>, number: usize) -> &'static [u8]
     if count < number { b" * " } else { b"   " }
 }
 
-// A formula in lines, and the end of the last.
-fn formula_text(alloc: Global, table: &VarTable, form: &Form) -> Result<Vec<u8>, Memory>
+// A formula in lines, and what its bound variables are called.
+fn formula_text(
+    alloc: Global,
+    table: &VarTable,
+    notes: &[Note],
+    form: &Form,
+) -> Result<Vec<u8>, Memory>
     ensures { IfOk result (λ text. ShowsFormula table.now form.now text.items) }
 {
     let shown = show(alloc, form, table)?;
     let mut text = laid_out(alloc, &shown, WIDTH, INDENT)?;
     text.extend_from_slice(b"\n")?;
+    let names = names_line(alloc, words_for(notes, form))?;
+    text.extend_from_slice(&names)?;
     Ok(text)
+}
+
+// `        where $1 is i`; nothing where nothing is told.
+fn names_line(alloc: Global, words: &[u8]) -> Result<Vec<u8>, Memory>
+    ensures { IfOk result (λ line. TellsNames line.items) }
+{
+    if words.is_empty() {
+        return Ok(Vec::new(alloc));
+    }
+    let mut line = Vec::from_slice(alloc, b"        where ")?;
+    line.extend_from_slice(words)?;
+    line.extend_from_slice(b"\n")?;
+    Ok(line)
 }
 
 /// Writes a count behind words.

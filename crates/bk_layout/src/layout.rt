@@ -1,6 +1,6 @@
 //! A text of tokens in lines.
 
-ghost use Rattle.std.specs.Prelude.{IfOk};
+ghost use Rattle.std.specs.Prelude.{◌≡◌, ◌+◌, ◌≤◌, length, IfOk};
 ghost use Rattle.bk_lex.specs.Lexis.{AreTokens};
 ghost use Rattle.bk_layout.specs.Laid.{IsLaidOut};
 
@@ -14,8 +14,19 @@ use bk_raw::InfixOp;
 use std::alloc::Global;
 
 /// A printed formula in lines of some `width` bytes, of which all but the first begin with at least `indent` blanks: blanks and line
-/// ends between its tokens are all that differs. A text that has no tokens stays as it is.
+/// ends between its tokens are all that differs. A text that fits into a line stays as it is, and so does one that has no tokens.
 pub fn laid_out(alloc: Global, text: &[u8], width: usize, indent: usize) -> Result<Vec<u8>, Memory>
+    ensures laid { IfOk result (λ laid. IsLaidOut text.now laid.items) }
+    ensures short { indent + length text.now ≤ width → IfOk result (λ laid. laid.items ≡ text.now) }
+{
+    if indent.saturating_add(text.len()) <= width {
+        return as_it_is(alloc, text);
+    }
+    broken(alloc, text, width, indent)
+}
+
+// A printed formula in lines.
+fn broken(alloc: Global, text: &[u8], width: usize, indent: usize) -> Result<Vec<u8>, Memory>
     ensures { IfOk result (λ laid. IsLaidOut text.now laid.items) }
 {
     match tokens(alloc, text) {
@@ -44,7 +55,8 @@ fn laid_or_not(
 }
 
 fn as_it_is(alloc: Global, text: &[u8]) -> Result<Vec<u8>, Memory>
-    ensures { IfOk result (λ laid. IsLaidOut text.now laid.items) }
+    ensures laid { IfOk result (λ laid. IsLaidOut text.now laid.items) }
+    ensures same { IfOk result (λ laid. laid.items ≡ text.now) }
 {
     Ok(Vec::from_slice(alloc, text)?)
 }

@@ -1,8 +1,8 @@
 -- Obligations of a list, lists item by item, and what is answered where memory is wanting.
-use Rattle.std.proofs.Common.{◌≡◌, inl, ℕ, zero, suc, ◌+◌, ◌<◌, List, [], ◌∷◌, ◌++◌, map, take, length, get_or, refl, sym, ◌∙◌, ap, subst, arith, below_more, Option, Some, None, Result, Ok, Err, IfOk}
+use Rattle.std.proofs.Common.{◌≡◌, inl, ℕ, zero, suc, ◌+◌, ◌<◌, ◌≤◌, List, [], ◌∷◌, ◌++◌, map, take, length, get_or, refl, sym, ◌∙◌, ap, subst, arith, below_more, Option, Some, None, Result, Ok, Err, IfOk}
 use Rattle.std.specs.Prelude.{Bool, true, All, Contains, IfSome}
 use Rattle.std.specs.List.{AllZip}
-use Rattle.std.proofs.lemmas.List.{take_more}
+use Rattle.std.proofs.lemmas.List.{take_more, take_all}
 use Rattle.std.proofs.lemmas.Slice.Zip.{all_zipped_more}
 use Rattle.bk_form.specs.Each.{Each}
 use Rattle.bk_dev.specs.Development.{Development}
@@ -113,7 +113,10 @@ none_found P (Err e) h = h
 -- the rows so far, and one more
 pub rows_more : (old new : List Row) (i : ℕ) (row other : Row) → i < length old → row ≡ get_or old i row → i < length new → other ≡ get_or new i other → take i new ≡ take i old → other ≡ row → take (i + 1) new ≡ take (i + 1) old
 rows_more old new i row other l e m f h s =
-    take_more new i other m ∙ (λ k. h k ++ (sym f ∙ s ∙ e) k ∷ []) ∙ sym (take_more old i row l)
+    take_more new i other m ∙ ap (λ xs. xs ++ get_or new i other ∷ []) h ∙ ap (λ x. take i old ++ x ∷ []) (sym f ∙ s ∙ e) ∙ sym (take_more old i row l)
+
+pub rows_all : (old new : List Row) (i : ℕ) → length old ≤ i → length new ≤ i → take i new ≡ take i old → new ≡ old
+rows_all old new i l m e = sym (take_all i new m) ∙ e ∙ take_all i old l
 
 -- and one script more that is no longer
 pub scripts_more : (old new : List RawScript) (i : ℕ) (script other : RawScript) → i < length old → script ≡ get_or old i script → i < length new → other ≡ get_or new i other → AllZip IsNoLonger (take i old) (take i new) → IsNoLonger script other →
@@ -123,3 +126,6 @@ scripts_more old new i script other l e m f h s =
     let first : take i old ++ script ∷ [] ≡ take (i + 1) old = ap (λ r. take i old ++ r ∷ []) e ∙ sym (take_more old i script l) in
     let second : take i new ++ other ∷ [] ≡ take (i + 1) new = ap (λ r. take i new ++ r ∷ []) f ∙ sym (take_more new i other m) in
     subst (λ ys. AllZip IsNoLonger (take (i + 1) old) ys) second (subst (λ xs. AllZip IsNoLonger xs (take i new ++ other ∷ [])) first more)
+
+pub scripts_all : (old new : List RawScript) (i : ℕ) → length old ≤ i → length new ≤ i → AllZip IsNoLonger (take i old) (take i new) → AllZip IsNoLonger old new
+scripts_all old new i l m h = subst (λ ys. AllZip IsNoLonger old ys) (take_all i new m) (subst (λ xs. AllZip IsNoLonger xs (take i new)) (take_all i old l) h)

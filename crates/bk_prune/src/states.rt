@@ -1,10 +1,11 @@
 //! Whether a text proves what scripts prove.
 
-ghost use Rattle.std.specs.Prelude.{◌≡◌, true, List, [], ◌∷◌, map, Ok, None, IfOk, IfSome};
+ghost use Rattle.std.specs.Prelude.{◌≡◌, true, List, [], ◌∷◌, length, map, Ok, None, IfOk, IfSome};
 ghost use Rattle.std.specs.List.{AllZip};
 ghost use Rattle.bk_raw.specs.Trees.ScriptTree.{RawScript as ScriptTree};
 ghost use Rattle.bk_p_proof.specs.Files.{AreScriptsOf};
 ghost use Rattle.bk_status.specs.Rows.{HasRows};
+ghost use Rattle.bk_status.specs.States as meant;
 ghost use Rattle.bk_prune.specs.Pruned.{HasStatesOf, HaveSameRows, IsNoLonger};
 
 use bk_dev::Development;
@@ -12,7 +13,7 @@ use bk_io::Memory;
 use bk_p_proof::laws::faults_exclude;
 use bk_p_proof::{ScriptFault, Scripts, scripts};
 use bk_po::PoFault;
-use bk_raw::RawScript;
+use bk_raw::{RawRule, RawScript};
 use bk_status::{Row, State, Table, name_text, status};
 use std::alloc::Global;
 
@@ -122,9 +123,43 @@ fn are_no_longer(alloc: Global, old: &[RawScript], new: &[RawScript]) -> Result<
 fn is_no_longer(alloc: Global, old: &RawScript, new: &RawScript) -> Result<bool, Memory>
     ensures { IfOk result (λ is. is ≡ true → IsNoLonger old.now new.now) }
 {
-    let old_name = name_text(alloc, &old.name)?;
-    let new_name = name_text(alloc, &new.name)?;
-    Ok(new_name == old_name && new.rules.len() <= old.rules.len())
+    let is_named = has_name_of(alloc, old, new)?;
+    if !is_named {
+        return Ok(false);
+    }
+    let before = rule_count(old);
+    let after = rule_count(new);
+    if before < after {
+        return Ok(false);
+    }
+    Ok(true)
+}
+
+// Whether both scripts have one name.
+fn has_name_of(alloc: Global, old: &RawScript, new: &RawScript) -> Result<bool, Memory>
+    ensures { IfOk result (λ has. has ≡ true → meant.name_text new.now.name ≡ meant.name_text old.now.name) }
+{
+    let own = name_of(alloc, old)?;
+    let other = name_of(alloc, new)?;
+    Ok(other == own)
+}
+
+fn name_of(alloc: Global, script: &RawScript) -> Result<Vec<u8>, Memory>
+    ensures { IfOk result (λ name. name.items ≡ meant.name_text script.now.name) }
+{
+    name_text(alloc, &script.name)
+}
+
+fn rule_count(script: &RawScript) -> usize
+    ensures { result ≡ length script.now.rules }
+{
+    count(&script.rules)
+}
+
+fn count(rules: &[RawRule]) -> usize
+    ensures { result ≡ length rules.now }
+{
+    rules.len()
 }
 
 // The status table; None where the obligations pass a limit.

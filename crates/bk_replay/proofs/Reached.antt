@@ -1,8 +1,8 @@
 -- Rules go as far as they go, and the kernel's verdict follows.
-use Rattle.std.proofs.Common.{◌≡◌, ◌⊎◌, inl, inr, ℕ, zero, suc, ◌+◌, ◌-◌, ◌<◌, ◌≤◌, ◌^◌, min, true, false, cond, nat_lt, List, [], ◌∷◌, ◌++◌, take, length, get_or, refl, sym, ◌∙◌, ap, subst, arith, Result, Ok, Err, IfOk, map}
+use Rattle.std.proofs.Common.{◌≡◌, ◌⊎◌, inl, inr, ℕ, zero, suc, ◌+◌, ◌-◌, ◌<◌, ◌≤◌, ◌^◌, min, true, false, cond, nat_lt, List, [], ◌∷◌, ◌++◌, take, length, get_or, refl, sym, ◌∙◌, ap, subst, arith, Result, Ok, Err, IfOk, map, reverse}
 use Rattle.std.specs.Prelude.{Some, slice_get}
 use Rattle.std.proofs.lemmas.Bool.Decides.{nat_tests}
-use Rattle.std.proofs.lemmas.List.{take_all}
+use Rattle.std.proofs.lemmas.List.{take_all, map-append, reverse-append}
 use Rattle.std.proofs.lemmas.Option.{slice_get_read}
 use Rattle.bk_form.specs.Table.{Table}
 use Rattle.bk_seq.specs.Paths.{numbered_item}
@@ -57,6 +57,16 @@ module _ {E : Type 0} (table : Table) (rules : List Rule) (s : Sequent) (i : ℕ
   stopped_there reached never before same (Ok st) done left =
       at-number table rules s (map sequent_of st.left.items) i st.done done (stops_here table rules s i rule is_rule less held others first popped reached never (map sequent_of st.left.items) (left ∙ ap (λ b. b ∷ in_order others) same))
   stopped_there reached never before same (Err e) done left = done
+
+-- those that are held, turned round
+map-reversed : (held : List StoredSequent) → map sequent_of (reverse held) ≡ reverse (map sequent_of held)
+map-reversed [] = refl
+map-reversed (s ∷ ss) =
+    ap (map sequent_of) (reverse-append (s ∷ []) ss) ∙ map-append sequent_of (reverse ss) (s ∷ [])
+    ∙ ap (λ xs. xs ++ sequent_of s ∷ []) (map-reversed ss) ∙ sym (reverse-append (sequent_of s ∷ []) (map sequent_of ss))
+
+pub in_order_reversed : (held after : List StoredSequent) → after ≡ reverse held → map sequent_of after ≡ in_order held
+in_order_reversed held after e = ap (map sequent_of) e ∙ map-reversed held
 
 -- none is held
 pub none_held : (held : List StoredSequent) → held ≡ [] → in_order held ≡ []

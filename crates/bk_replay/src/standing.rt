@@ -39,7 +39,8 @@ pub fn furthest(
     open.push(sequent)?;
     for (index, rule) in rules.iter().enumerate() {
         let Some(first) = open.pop() else {
-            return Ok(reversed(index as u32, open));
+            let closed = reversed(index as u32, open);
+            return Ok(closed);
         };
         let before = again(alloc, &first)?;
         match step(alloc, types, first, rule) {
@@ -48,7 +49,8 @@ pub fn furthest(
             Err(StepFault::Memory) => return Err(Memory),
         }
     }
-    Ok(reversed(rules.len() as u32, open))
+    let whole = reversed(rules.len() as u32, open);
+    Ok(whole)
 }
 
 /// What is open behind the first rules, where so many are steps; else behind as many as are.
@@ -143,6 +145,7 @@ fn stopped(done: u32, mut open: Vec<Sequent>, first: Sequent) -> Result<Standing
 }
 
 // The standing with these sequents, of which the first stands last.
+#[tactic(auto, using(crate::proofs::Reached::in_order_reversed))]
 fn reversed(done: u32, mut open: Vec<Sequent>) -> Standing
     ensures done { result.done ≡ done }
     ensures left { map sequent_of result.left.items ≡ in_order open.items }

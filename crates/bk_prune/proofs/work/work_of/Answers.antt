@@ -1,5 +1,6 @@
-use Rattle.std.proofs.Common.{sym, ◌∙◌, subst}
+use Rattle.std.proofs.Common.{sym, ◌∙◌, ap, subst}
 use Rattle.bk_seq.specs.Sequents.{Types, IsWithin, sequent_of}
+use Rattle.bk_status.specs.States.{name_text}
 use Rattle.bk_status.specs.Replayable.{IsReplayable}
 use Rattle.bk_status.proofs.Outcomes.{types_there, countable}
 use Rattle.bk_prune.proofs.Ready.{each_listed}
@@ -18,7 +19,7 @@ returns c =
     record {
       obligation = o;
       listed = c.in-Some.ensures.0;
-      named = c.in-Some.ensures.1 ∙ c.deref-2.ensures.value ∙ c.in_ok-name.ensures;
+      named = c.in-Some.ensures.1 ∙ c.deref-2.ensures.value ∙ c.in_ok-name.ensures ∙ ap name_text (c.deref.ensures.value ∙ ap (λ z. z.name) c.script.view_is);
       own = c.in_ok-sequent.ensures;
       grounded = c.in_ok-rules.ensures;
       types = subst (Types table) (sym c.in_ok-sequent.ensures) wide;

@@ -11,7 +11,7 @@ returns-in_default c =
     let l = c.loop-index in
     let none : in_order l.open.items ≡ [] = none_held l.open.items (nil_from_length l.open.items (omega (arith, c.in_default.ensures.cases.0, l.open.ok.0))) in
     let rest : in_order c.pop.new.self.items ≡ [] = none_held c.pop.new.self.items (nil_from_length c.pop.new.self.items (omega (arith, c.in_default.ensures.cases.1, c.pop.new.self.ok.0))) in
-    ended_there c.args.types.now c.args.rules.now (sequent_of c.args.sequent) l.index (in_order l.open.items) c.reversed.result l.invariant.reached none c.loop-index-test.true c.reversed.ensures.done (c.reversed.ensures.left ∙ rest ∙ sym none)
+    ended_there c.args.types.now c.args.rules.now (sequent_of c.args.sequent) l.index (in_order l.open.items) c.reversed-closed.result l.invariant.reached none c.loop-index-test.true c.reversed-closed.ensures.done (c.reversed-closed.ensures.left ∙ rest ∙ sym none)
 
 pub returns-in-Err-NoInstance : goal.returns-in-Err-NoInstance
 returns-in-Err-NoInstance c =
@@ -29,4 +29,4 @@ loop-index-preserved c =
 pub returns : goal.returns
 returns c =
     let l = c.loop-index in
-    done_there c.args.types.now c.args.rules.now (sequent_of c.args.sequent) l.index (in_order l.open.items) c.reversed.result l.invariant.reached c.loop-index-test.false c.reversed.ensures.done c.reversed.ensures.left
+    done_there c.args.types.now c.args.rules.now (sequent_of c.args.sequent) l.index (in_order l.open.items) c.reversed-whole.result l.invariant.reached c.loop-index-test.false c.reversed-whole.ensures.done c.reversed-whole.ensures.left
