@@ -9,7 +9,7 @@ ghost use Rattle.bk_proof_program.specs.Answers.{IsEnd};
 ghost use Rattle.bk_proof_program.specs.Goals as meant;
 ghost use Rattle.bk_proof_program.specs.Goals.{IsGoalOf};
 
-use crate::project::{found, obligation_named, read_whole};
+use crate::project::{found, notes_of, obligation_named, read_whole};
 use bk_goal::{Asked, GoalText, goal_text};
 use bk_io::{Memory, Shelf};
 use bk_po::Obligation;
@@ -36,11 +36,13 @@ pub(crate) fn goal_answer<H: Shelf>(
         let text = unknown(alloc, name.as_bytes(), &whole.list)?;
         return Ok((text, Status::Usage));
     };
+    let notes = notes_of(alloc, &whole)?;
     let asked = Asked {
         dev: &whole.project.development,
         table: &whole.table,
         obligation,
         found: found(alloc, &whole, name.as_bytes())?,
+        notes: &notes,
         at,
     };
     let GoalText { text, is_open } = goal_text(alloc, asked)?;

@@ -20,7 +20,7 @@ ghost use Rattle.bk_proof_program.specs.Texts.{AreTextsOf, IsToldFile};
 use bk_dev::Development;
 use bk_form::{Token, VarTable};
 use bk_front::{ProjectLine, lines};
-use bk_goal::Found;
+use bk_goal::{Found, Note, notes};
 use bk_io::{Memory, Shelf, Text};
 use bk_lex::{LexFault, tokens};
 use bk_p_comp::component;
@@ -244,6 +244,12 @@ pub(crate) fn raw_components(
         }
     }
     Ok(all)
+}
+
+/// What the texts of the components call bound variables.
+pub(crate) fn notes_of(alloc: Global, whole: &Whole) -> Result<Vec<Note>, Memory> {
+    let raws = raw_components(alloc, &whole.files.components)?;
+    notes(alloc, &whole.project.development, &raws)
 }
 
 /// The first obligation with a name.

@@ -13,10 +13,10 @@ ghost use Rattle.bk_proof_program.specs.Texts.{file_of, files_read};
 ghost use Rattle.bk_proof_program.specs.Told.{WritesReport, IsReportOf};
 
 use crate::list::{all_items, status_of, strays};
-use crate::project::{NamedText, Whole, found, obligation_named, read_whole};
+use crate::project::{NamedText, Whole, found, notes_of, obligation_named, read_whole};
 use crate::task::ReportForm;
 use bk_evidence::{File, Report, html_page, inputs, json_text, report_text};
-use bk_goal::{Asked, goal_text};
+use bk_goal::{Asked, Note, goal_text};
 use bk_io::{Memory, Shelf, Text};
 use bk_status::Row;
 use bk_verbs::proof::table_of;
@@ -107,15 +107,16 @@ fn json_line(alloc: Global, report: &Report) -> Result<Vec<u8>, Memory>
 fn shown_texts(alloc: Global, whole: &Whole, rows: &[Row]) -> Result<Vec<Text>, Memory>
     requires { IsReady whole.now.project.development whole.now.table whole.now.list.items }
 {
+    let notes = notes_of(alloc, whole)?;
     let mut texts = Vec::new(alloc);
     for row in rows {
-        texts.push(open_text(alloc, whole, row.name.as_bytes())?)?;
+        texts.push(open_text(alloc, whole, &notes, row.name.as_bytes())?)?;
     }
     Ok(texts)
 }
 
 // What is open of an obligation; nothing of one that is settled.
-fn open_text(alloc: Global, whole: &Whole, name: &[u8]) -> Result<Text, Memory>
+fn open_text(alloc: Global, whole: &Whole, notes: &[Note], name: &[u8]) -> Result<Text, Memory>
     requires { IsReady whole.now.project.development whole.now.table whole.now.list.items }
 {
     let Some(obligation) = obligation_named(&whole.list, name) else {
@@ -126,6 +127,7 @@ fn open_text(alloc: Global, whole: &Whole, name: &[u8]) -> Result<Text, Memory>
         table: &whole.table,
         obligation,
         found: found(alloc, whole, name)?,
+        notes,
         at: None,
     };
     let shown = goal_text(alloc, asked)?;
