@@ -34,11 +34,11 @@ written_twice (Some old) one two = ap Some (append_assoc old one two)
 
 -- the line of a stop, and words behind it
 pub stop_told : (stop : Stop) (old middle new : Option (List ℕ)) (status : Status) (words : List ℕ) → Reports stop status old middle → new ≡ written_with middle words → IsCutShort status ⊎ TellsStop stop old new status
-stop_told stop old middle new status words (inl h) e = inr record {
+stop_told stop old middle new status words (inl h) e = inr (record {
   words = words;
   written = e ∙ (ap (λ m. written_with m words) h.1 ∙ written_twice old (stop_text stop) words);
   ends = h.0;
-}
+})
 stop_told stop old middle new status words (inr h) e = inl h.0
 
 -- ---- what is written at an end
@@ -60,12 +60,12 @@ words_written files stop old new status end (inr h) = inr (inl (stop, h))
 pub answer_written : (files : Files) (task : Task) (text : List ℕ) (old new : Option (List ℕ)) (status result : Status) → IsEnd result → AnswersTask files task text status
     → IsCutShort result ⊎ ((result ≡ status) × (new ≡ written_with old text)) → IsWritten files old new result
 answer_written files task text old new status result end a (inl h) = absurd (not_both result end h)
-answer_written files task text old new status result end a (inr h) = inl record {
+answer_written files task text old new status result end a (inr h) = inl (record {
   task = task;
   text = text;
   answers = subst (AnswersTask files task text) (sym h.0) a;
   written = h.1;
-}
+})
 
 pub usage_written : (files : Files) (text : List ℕ) (old new : Option (List ℕ)) (result : Status) → IsEnd result → IsCutShort result ⊎ ((result ≡ Usage) × (new ≡ written_with old text)) → IsWritten files old new result
 usage_written files text old new result end (inl h) = absurd (not_both result end h)
