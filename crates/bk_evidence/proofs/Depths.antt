@@ -13,8 +13,9 @@ use Rattle.bk_evidence.specs.declared.item.Script.{Script}
 use Rattle.bk_evidence.specs.declared.report.Input.{Input}
 use Rattle.bk_evidence.specs.declared.report.Report.{Report}
 use Rattle.bk_evidence.specs.declared.sums.Sums.{Sums}
-use Rattle.bk_evidence.specs.Items.{sums_over}
-use Rattle.bk_evidence.specs.Json.{text_data, count_data, script_data, place_members, item_data, input_data, sums_data, asked_data, items_data, inputs_data, texts_data, report_data}
+use Rattle.bk_evidence.specs.Items.{sums_over, sums_with}
+use Rattle.bk_origins.specs.declared.concern.Concern.TheVariants.{Initialisation, Operation, Assertion, Values, Definedness, Other}
+use Rattle.bk_evidence.specs.Json.{text_data, count_data, script_data, place_members, item_data, input_data, sums_data, kinds_data, asked_data, items_data, inputs_data, texts_data, report_data}
 
 -- ---- members and items
 by-order : (n : ℕ) (o : Ordering) (a b c : Members) → members_depth a ≤ n → members_depth b ≤ n → members_depth c ≤ n → members_depth (match_ordering o a b c) ≤ n
@@ -101,10 +102,25 @@ obvious-member sums = put (codes "obvious") (count_data sums.obvious) (all-membe
 abbrev proved-member : Sums → Members
 proved-member sums = put (codes "proved") (count_data sums.proved) (obvious-member sums)
 
-sums-within : (sums : Sums) → depth (sums_data sums) ≤ 3
+sums-within : (sums : Sums) → depth (sums_data sums) ≤ 1
 sums-within sums =
-    one-more (put (codes "open") (count_data sums.left) (proved-member sums)) 2 (one-flat (codes "open") (count_data sums.left) (proved-member sums) 2 refl (one-flat (codes "proved") (count_data sums.proved) (obvious-member sums) 2 refl
-    (one-flat (codes "obvious") (count_data sums.obvious) (all-member sums) 2 refl (one-flat (codes "obligations") (count_data sums.obligations) no_members 2 refl (none 2)))))
+    one-more (put (codes "open") (count_data sums.left) (proved-member sums)) 0 (one-flat (codes "open") (count_data sums.left) (proved-member sums) 0 refl (one-flat (codes "proved") (count_data sums.proved) (obvious-member sums) 0 refl
+    (one-flat (codes "obvious") (count_data sums.obvious) (all-member sums) 0 refl (one-flat (codes "obligations") (count_data sums.obligations) no_members 0 refl (none 0)))))
+
+-- sums one behind another
+one-sums : (k : List ℕ) (sums : Sums) (ms : Members) → members_depth ms ≤ 1 → members_depth (put k (sums_data sums) ms) ≤ 1
+one-sums k sums ms h = put-within k (sums_data sums) ms 1 (sums-within sums) h
+
+kinds-within : (items : List Item) → depth (kinds_data items) ≤ 2
+kinds-within items =
+    let first = put (codes "initialisation") (sums_data (sums_with Initialisation items)) no_members in
+    let second = put (codes "operations") (sums_data (sums_with Operation items)) first in
+    let third = put (codes "assertions") (sums_data (sums_with Assertion items)) second in
+    let fourth = put (codes "values") (sums_data (sums_with Values items)) third in
+    let fifth = put (codes "definedness") (sums_data (sums_with Definedness items)) fourth in
+    one-more (put (codes "others") (sums_data (sums_with Other items)) fifth) 1 (one-sums (codes "others") (sums_with Other items) fifth (one-sums (codes "definedness") (sums_with Definedness items) fourth
+    (one-sums (codes "values") (sums_with Values items) third (one-sums (codes "assertions") (sums_with Assertion items) second
+    (one-sums (codes "operations") (sums_with Operation items) first (one-sums (codes "initialisation") (sums_with Initialisation items) no_members (none 1)))))))
 
 one-asked : (b : Bool) (d : Data) (ds : List Data) → depth d ≤ 2 → items_depth (items_of ds) ≤ 2 → items_depth (items_of (cond b [] (d ∷ []) ++ ds)) ≤ 2
 one-asked true d ds h g = g
@@ -141,13 +157,19 @@ obligations-member report = put (codes "obligations") (items_data false report.i
 abbrev strays-member : Report → Members
 strays-member report = put (codes "scripts_for_no_obligation") (texts_data report.strays.items) (obligations-member report)
 
+abbrev sums-member : Report → Members
+sums-member report = put (codes "sums") (sums_data (sums_over report.items.items)) (strays-member report)
+
 report-within : (report : Report) → depth (report_data report) ≤ 4
 report-within report =
     let machine = one-flat (codes "machine") (text_data report.machine) (toolchain-member report) 3 refl (one-flat (codes "toolchain") (string report.toolchain.now) (version-member report) 3 refl (one-flat (codes "version") (string report.version.now) no_members 3 refl (none 3))) in
     let inputs = put-within (codes "inputs") (inputs_data report.inputs.items) (machine-member report) 3 (inputs-within report.inputs.items) machine in
     let obligations = put-within (codes "obligations") (items_data false report.items.items) (inputs-member report) 3 (items-within false report.items.items) inputs in
     let strays = put-within (codes "scripts_for_no_obligation") (texts_data report.strays.items) (obligations-member report) 3 (texts-within report.strays.items) obligations in
-    one-more (put (codes "sums") (sums_data (sums_over report.items.items)) (strays-member report)) 3 (put-within (codes "sums") (sums_data (sums_over report.items.items)) (strays-member report) 3 (sums-within (sums_over report.items.items)) strays)
+    let flat-sums = sums-within (sums_over report.items.items) in
+    let few-kinds = kinds-within report.items.items in
+    let sums = put-within (codes "sums") (sums_data (sums_over report.items.items)) (strays-member report) 3 (omega arith) strays in
+    one-more (put (codes "sums_by_kind") (kinds_data report.items.items) (sums-member report)) 3 (put-within (codes "sums_by_kind") (kinds_data report.items.items) (sums-member report) 3 (omega arith) sums)
 
 pub report_nests : (report : Report) (d : Data) → d ≡ report_data report → depth d ≤ max_depth
 report_nests report d e = subst (λ x. depth x ≤ max_depth) (sym e) (let few = report-within report in omega arith)

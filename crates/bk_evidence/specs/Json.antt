@@ -11,7 +11,8 @@ use Rattle.bk_evidence.specs.declared.item.Script.{Script}
 use Rattle.bk_evidence.specs.declared.report.Input.{Input}
 use Rattle.bk_evidence.specs.declared.report.Report.{Report}
 use Rattle.bk_evidence.specs.declared.sums.Sums.{Sums}
-use Rattle.bk_evidence.specs.Items.{sums_over}
+use Rattle.bk_evidence.specs.Items.{sums_over, sums_with}
+use Rattle.bk_origins.specs.declared.concern.Concern.TheVariants.{Initialisation, Operation, Assertion, Values, Definedness, Other}
 
 -- bytes as text; what is no UTF-8 stands as U+FFFD
 abbrev pub text_data : List ℕ → Data
@@ -47,6 +48,13 @@ abbrev pub sums_data : Sums → Data
 sums_data sums = object (put (codes "open") (count_data sums.left) (put (codes "proved") (count_data sums.proved)
     (put (codes "obvious") (count_data sums.obvious) (put (codes "obligations") (count_data sums.obligations) no_members))))
 
+-- the same of each kind of obligations
+abbrev pub kinds_data : List Item → Data
+kinds_data items = object (put (codes "others") (sums_data (sums_with Other items))
+    (put (codes "definedness") (sums_data (sums_with Definedness items)) (put (codes "values") (sums_data (sums_with Values items))
+    (put (codes "assertions") (sums_data (sums_with Assertion items)) (put (codes "operations") (sums_data (sums_with Operation items))
+    (put (codes "initialisation") (sums_data (sums_with Initialisation items)) no_members))))))
+
 -- ---- lists of them
 -- an obligation, and nothing of one that is settled, where those are asked that are open
 abbrev pub asked_data : (is_open_only : Bool) → Item → List Data
@@ -67,8 +75,9 @@ texts_data texts = array (items_of (map text_data texts))
 -- ---- the report
 -- who wrote it and what it is of, the files, the obligations, the scripts for none, and the sums
 abbrev pub report_data : Report → Data
-report_data report = object (put (codes "sums") (sums_data (sums_over report.items.items))
+report_data report = object (put (codes "sums_by_kind") (kinds_data report.items.items)
+    (put (codes "sums") (sums_data (sums_over report.items.items))
     (put (codes "scripts_for_no_obligation") (texts_data report.strays.items)
     (put (codes "obligations") (items_data false report.items.items)
     (put (codes "inputs") (inputs_data report.inputs.items) (put (codes "machine") (text_data report.machine)
-    (put (codes "toolchain") (string report.toolchain.now) (put (codes "version") (string report.version.now) no_members)))))))
+    (put (codes "toolchain") (string report.toolchain.now) (put (codes "version") (string report.version.now) no_members))))))))

@@ -1,5 +1,5 @@
 -- What `list` and `report` write as lines.
-use Rattle.std.specs.Prelude.{ℕ, Bool, false, cond, ◌&&◌, List, [], ◌++◌, Option, Some, None, codes, decimal, string_bytes}
+use Rattle.std.specs.Prelude.{ℕ, nat_eq, Bool, false, cond, ◌&&◌, List, [], ◌++◌, Option, Some, None, codes, decimal, string_bytes}
 use Rattle.std.specs.List.{flat_map}
 use Rattle.bk_status.specs.Rows.{is_settled}
 use Rattle.bk_report.specs.Table.{state_text}
@@ -8,7 +8,9 @@ use Rattle.bk_evidence.specs.declared.item.Script.{Script}
 use Rattle.bk_evidence.specs.declared.report.Input.{Input}
 use Rattle.bk_evidence.specs.declared.report.Report.{Report}
 use Rattle.bk_evidence.specs.declared.sums.Sums.{Sums}
-use Rattle.bk_evidence.specs.Items.{sums_over}
+use Rattle.bk_evidence.specs.Items.{sums_over, sums_with}
+use Rattle.bk_origins.specs.declared.concern.Concern.{Concern}
+use Rattle.bk_origins.specs.declared.concern.Concern.TheVariants.{Initialisation, Operation, Assertion, Values, Definedness, Other}
 
 -- ---- obligations
 -- `T.inc.1  invariant conjunct 1 is kept by inc  `: the name, and what is asked
@@ -50,6 +52,26 @@ abbrev pub sums_line : Sums → List ℕ
 sums_line sums = decimal sums.obligations ++ (codes " obligations: " ++ decimal sums.obvious) ++ (codes " obvious, " ++ decimal sums.proved)
     ++ (codes " proved, " ++ decimal sums.left) ++ codes " open\n"
 
+-- what a kind of obligations is called
+abbrev pub concern_text : Concern → List ℕ
+concern_text Initialisation = codes "initialisation"
+concern_text Operation = codes "operations"
+concern_text Assertion = codes "assertions"
+concern_text Values = codes "values"
+concern_text Definedness = codes "definedness"
+concern_text Other = codes "others"
+
+-- `operations: 8 obligations: 4 obvious, 4 proved, 0 open`, where there are some
+abbrev pub concern_line : Concern → Sums → List ℕ
+concern_line concern sums = cond (nat_eq sums.obligations 0) [] ((concern_text concern ++ codes ": ") ++ sums_line sums)
+
+-- those of all kinds
+abbrev pub concern_lines : List Item → List ℕ
+concern_lines items =
+    concern_line Initialisation (sums_with Initialisation items) ++ concern_line Operation (sums_with Operation items)
+    ++ concern_line Assertion (sums_with Assertion items) ++ concern_line Values (sums_with Values items)
+    ++ concern_line Definedness (sums_with Definedness items) ++ concern_line Other (sums_with Other items)
+
 -- `T.mch 161 7efacaf9..`: a file, how many bytes it has, and its SHA-256
 abbrev pub input_line : Input → List ℕ
 input_line input = input.name ++ (codes " " ++ decimal input.length) ++ codes " " ++ string_bytes input.digest ++ codes "\n"
@@ -58,6 +80,7 @@ input_line input = input.name ++ (codes " " ++ decimal input.length) ++ codes " 
 abbrev pub input_lines : List Input → List ℕ
 input_lines inputs = flat_map input_line inputs
 
--- all obligations, the sums, and the files
+-- all obligations, the sums, those by kinds, and the files
 abbrev pub report_lines : Report → List ℕ
-report_lines report = list_lines false report.items.items ++ sums_line (sums_over report.items.items) ++ input_lines report.inputs.items
+report_lines report = list_lines false report.items.items ++ sums_line (sums_over report.items.items)
+    ++ concern_lines report.items.items ++ input_lines report.inputs.items

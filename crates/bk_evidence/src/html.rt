@@ -1,10 +1,12 @@
 //! Reports as one page of HTML, without scripts and without other files.
 
 use crate::item::{Item, is_settled, write_count, write_state};
+use crate::lines::concern_text;
 use crate::page::{CLAIMS, HEAD, STYLE};
 use crate::report::{Input, Report};
-use crate::sums::sums_of;
+use crate::sums::{Sums, sums_of, sums_with};
 use bk_io::Memory;
+use bk_origins::Concern;
 use std::alloc::Global;
 
 /// The page of a report: sums, the obligations that are open first, and the files that were read.
@@ -17,6 +19,7 @@ pub fn html_page(alloc: Global, report: &Report) -> Result<Vec<u8>, Memory> {
     escape(&mut page, report.machine.as_bytes())?;
     put(&mut page, "</h1>\n")?;
     write_sums(&mut page, report)?;
+    write_concerns(&mut page, report)?;
     write_rows(&mut page, report, false)?;
     write_rows(&mut page, report, true)?;
     write_strays(&mut page, report)?;
@@ -61,6 +64,39 @@ fn write_sum(page: &mut Vec<u8>, number: usize, name: &str) -> Result<(), Memory
     put(page, "</b>")?;
     put(page, name)?;
     put(page, "</li>\n")
+}
+
+// The sums of each kind.
+fn write_concerns(page: &mut Vec<u8>, report: &Report) -> Result<(), Memory> {
+    put(
+        page,
+        "<table>\n<thead><tr><th>Kind</th><th>Obligations</th><th>Obvious</th><th>Proved</th><th>Open</th></tr></thead>\n<tbody>\n",
+    )?;
+    for concern in [
+        Concern::Initialisation,
+        Concern::Operation,
+        Concern::Assertion,
+        Concern::Values,
+        Concern::Definedness,
+        Concern::Other,
+    ] {
+        let sums = sums_with(&report.items, concern);
+        if sums.obligations > 0 {
+            write_concern(page, concern, sums)?;
+        }
+    }
+    put(page, "</tbody>\n</table>\n")
+}
+
+fn write_concern(page: &mut Vec<u8>, concern: Concern, sums: Sums) -> Result<(), Memory> {
+    put(page, "<tr><td>")?;
+    put(page, concern_text(concern))?;
+    put(page, "</td>")?;
+    for number in [sums.obligations, sums.obvious, sums.proved, sums.left] {
+        write_count(page, b"<td>", number)?;
+        put(page, "</td>")?;
+    }
+    put(page, "</tr>\n")
 }
 
 // The obligations that are settled, or those that are not.

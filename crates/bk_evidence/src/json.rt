@@ -5,12 +5,13 @@ ghost use Rattle.serde_json.specs.Data.{depth, string, put as with_member};
 ghost use Rattle.serde_json.specs.Read.{read, max_depth};
 ghost use Rattle.serde_json.specs.View.{view, members_view};
 ghost use Rattle.bk_evidence.specs.Json.{text_data, count_data, script_data, place_members, item_data, asked_data, items_data};
-ghost use Rattle.bk_evidence.specs.Json.{input_data, inputs_data, texts_data, sums_data, report_data};
+ghost use Rattle.bk_evidence.specs.Json.{input_data, inputs_data, texts_data, sums_data, kinds_data, report_data};
 
 use crate::item::{Item, Script, is_left_out, write_state};
 use crate::report::{Input, Report};
-use crate::sums::{Sums, sums_of};
+use crate::sums::{Sums, sums_of, sums_with};
 use bk_io::{Memory, Text};
+use bk_origins::Concern;
 use serde_json::{Map, Value, put};
 use std::alloc::Global;
 
@@ -48,6 +49,7 @@ fn report_value(alloc: Global, report: &Report) -> Result<Value, Memory>
     let items = items_value(alloc, &report.items, false)?;
     let strays = texts_value(alloc, &report.strays)?;
     let sums = sums_value(alloc, sums_of(&report.items))?;
+    let kinds = kinds_value(alloc, &report.items)?;
     let mut map = Map::new(alloc);
     put_str(alloc, &mut map, "version", report.version)?;
     put_str(alloc, &mut map, "toolchain", report.toolchain)?;
@@ -56,6 +58,7 @@ fn report_value(alloc: Global, report: &Report) -> Result<Value, Memory>
     put(&mut map, alloc, "obligations", items)?;
     put(&mut map, alloc, "scripts_for_no_obligation", strays)?;
     put(&mut map, alloc, "sums", sums)?;
+    put(&mut map, alloc, "sums_by_kind", kinds)?;
     Ok(Value::Object(map))
 }
 
@@ -178,7 +181,55 @@ fn sums_value(alloc: Global, sums: Sums) -> Result<Value, Memory>
     Ok(Value::Object(map))
 }
 
+// The sums of each kind.
+#[tactic(auto, using(crate::proofs::Views::view_object))]
+fn kinds_value(alloc: Global, items: &[Item]) -> Result<Value, Memory>
+    ensures { IfOk result (λ v. view v ≡ kinds_data items.now) }
+{
+    let mut map = Map::new(alloc);
+    put_sums(
+        alloc,
+        &mut map,
+        "initialisation",
+        sums_with(items, Concern::Initialisation),
+    )?;
+    put_sums(
+        alloc,
+        &mut map,
+        "operations",
+        sums_with(items, Concern::Operation),
+    )?;
+    put_sums(
+        alloc,
+        &mut map,
+        "assertions",
+        sums_with(items, Concern::Assertion),
+    )?;
+    put_sums(alloc, &mut map, "values", sums_with(items, Concern::Values))?;
+    put_sums(
+        alloc,
+        &mut map,
+        "definedness",
+        sums_with(items, Concern::Definedness),
+    )?;
+    put_sums(alloc, &mut map, "others", sums_with(items, Concern::Other))?;
+    Ok(Value::Object(map))
+}
+
 // ---- members
+fn put_sums(
+    alloc: Global,
+    map: &mut Map<String, Value>,
+    key: &str,
+    sums: Sums,
+) -> Result<(), Memory>
+    ensures { OnOk result (members_view map.new.entries ≡ with_member key.now (sums_data sums) (members_view map.old.entries)) }
+{
+    let value = sums_value(alloc, sums)?;
+    put(map, alloc, key, value)?;
+    Ok(())
+}
+
 // Bytes as text; what is no UTF-8 stands as U+FFFD.
 #[tactic(auto, using(crate::proofs::Views::view_text))]
 fn text_value(alloc: Global, bytes: &[u8]) -> Result<Value, Memory>

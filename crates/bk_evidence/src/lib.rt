@@ -14,4 +14,4 @@ pub use item::{Item, Proof, Script, items};
 pub use json::{items_json, json_text};
 pub use lines::{list_text, report_text};
 pub use report::{File, Input, Report, inputs};
-pub use sums::{Sums, sums_of};
+pub use sums::{Sums, sums_of, sums_with};

@@ -1,20 +1,23 @@
 //! Reports and lists of obligations as lines.
 
-ghost use Rattle.std.specs.Prelude.{◌≡◌, ◌++◌, IfOk, OnOk};
+ghost use Rattle.std.specs.Prelude.{◌≡◌, ◌++◌, codes, IfOk, OnOk};
+ghost use Rattle.bk_evidence.specs.Items as meant;
 ghost use Rattle.bk_evidence.specs.Lines as texts;
 
 use crate::item::{Item, Script, is_left_out, write_count, write_state};
 use crate::report::{Input, Report};
-use crate::sums::{Sums, sums_of};
+use crate::sums::{Sums, sums_of, sums_with};
 use bk_io::Memory;
+use bk_origins::Concern;
 use std::alloc::{AllocError, Global};
 
-/// The report as lines: those of all obligations, the sums, and a line for each file.
+/// The report as lines: those of all obligations, the sums, those of each kind, and a line for each file.
 pub fn report_text(alloc: Global, report: &Report) -> Result<Vec<u8>, Memory>
     ensures { IfOk result (λ text. text.items ≡ texts.report_lines report.now) }
 {
     let mut text = list_text(alloc, &report.items, false)?;
     write_sums(&mut text, sums_of(&report.items))?;
+    write_concerns(&mut text, &report.items)?;
     write_inputs(&mut text, &report.inputs)?;
     Ok(text)
 }
@@ -104,6 +107,57 @@ fn write_sums(text: &mut Vec<u8>, sums: Sums) -> Result<(), AllocError>
     write_count(text, b" obvious, ", sums.proved)?;
     write_count(text, b" proved, ", sums.left)?;
     text.extend_from_slice(b" open\n")
+}
+
+// The sums of each kind.
+fn write_concerns(text: &mut Vec<u8>, items: &[Item]) -> Result<(), AllocError>
+    ensures { OnOk result (text.new.items ≡ text.old.items ++ texts.concern_lines items.now) }
+{
+    write_concern(text, items, Concern::Initialisation)?;
+    write_concern(text, items, Concern::Operation)?;
+    write_concern(text, items, Concern::Assertion)?;
+    write_concern(text, items, Concern::Values)?;
+    write_concern(text, items, Concern::Definedness)?;
+    write_concern(text, items, Concern::Other)
+}
+
+fn write_concern(text: &mut Vec<u8>, items: &[Item], concern: Concern) -> Result<(), AllocError>
+    ensures { OnOk result (text.new.items ≡ text.old.items ++ texts.concern_line concern (meant.sums_with concern items.now)) }
+{
+    let sums = sums_with(items, concern);
+    write_some(text, concern, sums)
+}
+
+fn write_some(text: &mut Vec<u8>, concern: Concern, sums: Sums) -> Result<(), AllocError>
+    ensures { OnOk result (text.new.items ≡ text.old.items ++ texts.concern_line concern sums) }
+{
+    if sums.obligations == 0 {
+        return Ok(());
+    }
+    write_name(text, concern)?;
+    write_sums(text, sums)
+}
+
+// `operations: `.
+fn write_name(text: &mut Vec<u8>, concern: Concern) -> Result<(), AllocError>
+    ensures { OnOk result (text.new.items ≡ text.old.items ++ (texts.concern_text concern ++ codes ": ")) }
+{
+    text.extend_from_slice(concern_text(concern).as_bytes())?;
+    text.extend_from_slice(b": ")
+}
+
+/// What a kind of obligations is called.
+pub(crate) fn concern_text(concern: Concern) -> &'static str
+    ensures { result.now ≡ texts.concern_text concern }
+{
+    match concern {
+        Concern::Initialisation => "initialisation",
+        Concern::Operation => "operations",
+        Concern::Assertion => "assertions",
+        Concern::Values => "values",
+        Concern::Definedness => "definedness",
+        Concern::Other => "others",
+    }
 }
 
 fn write_inputs(text: &mut Vec<u8>, inputs: &[Input]) -> Result<(), AllocError>

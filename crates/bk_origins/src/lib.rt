@@ -7,10 +7,12 @@
 mod asked;
 mod clause;
 mod component;
+mod concern;
 mod defined;
 mod leaf;
 mod origin;
 mod words;
 
 pub use component::Component;
+pub use concern::Concern;
 pub use origin::{Origin, origins};

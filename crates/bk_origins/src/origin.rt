@@ -5,6 +5,7 @@ ghost use Rattle.std.specs.Prelude.{◌≡◌, map, IfOk};
 use crate::asked::{Asked, clause_named, clauses_of, count_behind, place_among};
 use crate::clause::Site;
 use crate::component::Component;
+use crate::concern::Concern;
 use crate::leaf::Leaf;
 use bk_dev::Development;
 use bk_io::{Memory, Text};
@@ -15,6 +16,7 @@ use std::alloc::Global;
 #[derive(Drop)]
 pub struct Origin {
     pub name: Text,
+    pub concern: Concern,
     /// What it asks, in words.
     pub words: Vec<u8>,
     /// The number of the component, from 0, and the byte of its text.
@@ -74,6 +76,7 @@ fn origin_of(
     let name = obligation.name.copy(alloc)?;
     let unknown = Origin {
         name,
+        concern: Concern::Other,
         words: Vec::new(alloc),
         component: 0,
         at: 0,
@@ -94,6 +97,7 @@ fn origin_of(
     let leaf = leaf_of(asked, list, index);
     Ok(Origin {
         name: unknown.name,
+        concern: asked.clause.concern(),
         words: site.words(asked.clause, leaf, &obligation.sequent.goal)?,
         component: asked.level,
         at: place_of(site, asked, leaf),
