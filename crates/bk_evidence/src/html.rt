@@ -9,7 +9,7 @@ use bk_io::Memory;
 use bk_origins::Concern;
 use std::alloc::Global;
 
-/// The page of a report: sums, the obligations that are open first, and the files that were read.
+/// The page of a report: sums, those of each kind, the obligations, those that are open first, and the files that were read.
 pub fn html_page(alloc: Global, report: &Report) -> Result<Vec<u8>, Memory> {
     let mut page = Vec::new(alloc);
     put(&mut page, HEAD)?;
