@@ -8,6 +8,7 @@ use Rattle.serde_json.specs.View.{items_of}
 use Rattle.serde_json.specs.Read.{max_depth}
 use Rattle.bk_status.specs.Rows.{is_settled}
 use Rattle.bk_report.specs.Table.{state_text}
+use Rattle.bk_evidence.specs.declared.claims.Claims.{Claims}
 use Rattle.bk_evidence.specs.declared.item.Item.{Item}
 use Rattle.bk_evidence.specs.declared.item.Script.{Script}
 use Rattle.bk_evidence.specs.declared.report.Input.{Input}
@@ -15,7 +16,7 @@ use Rattle.bk_evidence.specs.declared.report.Report.{Report}
 use Rattle.bk_evidence.specs.declared.sums.Sums.{Sums}
 use Rattle.bk_evidence.specs.Items.{sums_over, sums_with}
 use Rattle.bk_origins.specs.declared.concern.Concern.TheVariants.{Initialisation, Operation, Assertion, Values, Definedness, Other}
-use Rattle.bk_evidence.specs.Json.{text_data, count_data, script_data, place_members, item_data, input_data, sums_data, kinds_data, asked_data, items_data, inputs_data, texts_data, report_data}
+use Rattle.bk_evidence.specs.Json.{text_data, count_data, script_data, place_members, item_data, input_data, sums_data, kinds_data, claims_data, asked_data, items_data, inputs_data, texts_data, report_data}
 
 -- ---- members and items
 by-order : (n : ℕ) (o : Ordering) (a b c : Members) → members_depth a ≤ n → members_depth b ≤ n → members_depth c ≤ n → members_depth (match_ordering o a b c) ≤ n
@@ -139,6 +140,13 @@ inputs-within inputs = let each = list-within input_data 2 input-within inputs i
 texts-within : (texts : List (List ℕ)) → depth (texts_data texts) ≤ 3
 texts-within texts = let each = list-within text_data 2 (λ text. flat 2) texts in omega arith
 
+claims-within : (claims : Claims) → depth (claims_data claims) ≤ 1
+claims-within claims =
+    let first = put (codes "proved") (string claims.proved.now) no_members in
+    let second = put (codes "trusted") (string claims.trusted.now) first in
+    one-more (put (codes "not_claimed") (string claims.not_claimed.now) second) 0 (one-flat (codes "not_claimed") (string claims.not_claimed.now) second 0 refl
+    (one-flat (codes "trusted") (string claims.trusted.now) first 0 refl (one-flat (codes "proved") (string claims.proved.now) no_members 0 refl (none 0))))
+
 abbrev version-member : Report → Members
 version-member report = put (codes "version") (string report.version.now) no_members
 
@@ -160,6 +168,9 @@ strays-member report = put (codes "scripts_for_no_obligation") (texts_data repor
 abbrev sums-member : Report → Members
 sums-member report = put (codes "sums") (sums_data (sums_over report.items.items)) (strays-member report)
 
+abbrev kinds-member : Report → Members
+kinds-member report = put (codes "sums_by_kind") (kinds_data report.items.items) (sums-member report)
+
 report-within : (report : Report) → depth (report_data report) ≤ 4
 report-within report =
     let machine = one-flat (codes "machine") (text_data report.machine) (toolchain-member report) 3 refl (one-flat (codes "toolchain") (string report.toolchain.now) (version-member report) 3 refl (one-flat (codes "version") (string report.version.now) no_members 3 refl (none 3))) in
@@ -169,7 +180,9 @@ report-within report =
     let flat-sums = sums-within (sums_over report.items.items) in
     let few-kinds = kinds-within report.items.items in
     let sums = put-within (codes "sums") (sums_data (sums_over report.items.items)) (strays-member report) 3 (omega arith) strays in
-    one-more (put (codes "sums_by_kind") (kinds_data report.items.items) (sums-member report)) 3 (put-within (codes "sums_by_kind") (kinds_data report.items.items) (sums-member report) 3 (omega arith) sums)
+    let few-claims = claims-within report.claims in
+    let kinds = put-within (codes "sums_by_kind") (kinds_data report.items.items) (sums-member report) 3 (omega arith) sums in
+    one-more (put (codes "claims") (claims_data report.claims) (kinds-member report)) 3 (put-within (codes "claims") (claims_data report.claims) (kinds-member report) 3 (omega arith) kinds)
 
 pub report_nests : (report : Report) (d : Data) → d ≡ report_data report → depth d ≤ max_depth
 report_nests report d e = subst (λ x. depth x ≤ max_depth) (sym e) (let few = report-within report in omega arith)

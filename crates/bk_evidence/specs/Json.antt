@@ -6,6 +6,7 @@ use Rattle.serde_json.specs.Data.{Data, null, number, unsigned, string, array, o
 use Rattle.serde_json.specs.View.{items_of}
 use Rattle.bk_status.specs.Rows.{is_settled}
 use Rattle.bk_report.specs.Table.{state_text}
+use Rattle.bk_evidence.specs.declared.claims.Claims.{Claims}
 use Rattle.bk_evidence.specs.declared.item.Item.{Item}
 use Rattle.bk_evidence.specs.declared.item.Script.{Script}
 use Rattle.bk_evidence.specs.declared.report.Input.{Input}
@@ -55,6 +56,11 @@ kinds_data items = object (put (codes "others") (sums_data (sums_with Other item
     (put (codes "assertions") (sums_data (sums_with Assertion items)) (put (codes "operations") (sums_data (sums_with Operation items))
     (put (codes "initialisation") (sums_data (sums_with Initialisation items)) no_members))))))
 
+-- what a report claims, and what it does not
+abbrev pub claims_data : Claims → Data
+claims_data claims = object (put (codes "not_claimed") (string claims.not_claimed.now) (put (codes "trusted") (string claims.trusted.now)
+    (put (codes "proved") (string claims.proved.now) no_members)))
+
 -- ---- lists of them
 -- an obligation, and nothing of one that is settled, where those are asked that are open
 abbrev pub asked_data : (is_open_only : Bool) → Item → List Data
@@ -73,11 +79,11 @@ abbrev pub texts_data : List (List ℕ) → Data
 texts_data texts = array (items_of (map text_data texts))
 
 -- ---- the report
--- who wrote it and what it is of, the files, the obligations, the scripts for none, and the sums
+-- who wrote it and what it is of, the files, the obligations, the scripts for none, the sums, and what is claimed
 abbrev pub report_data : Report → Data
-report_data report = object (put (codes "sums_by_kind") (kinds_data report.items.items)
+report_data report = object (put (codes "claims") (claims_data report.claims) (put (codes "sums_by_kind") (kinds_data report.items.items)
     (put (codes "sums") (sums_data (sums_over report.items.items))
     (put (codes "scripts_for_no_obligation") (texts_data report.strays.items)
     (put (codes "obligations") (items_data false report.items.items)
     (put (codes "inputs") (inputs_data report.inputs.items) (put (codes "machine") (text_data report.machine)
-    (put (codes "toolchain") (string report.toolchain.now) (put (codes "version") (string report.version.now) no_members))))))))
+    (put (codes "toolchain") (string report.toolchain.now) (put (codes "version") (string report.version.now) no_members)))))))))

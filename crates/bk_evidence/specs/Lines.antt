@@ -3,6 +3,7 @@ use Rattle.std.specs.Prelude.{ℕ, nat_eq, Bool, false, cond, ◌&&◌, List, []
 use Rattle.std.specs.List.{flat_map}
 use Rattle.bk_status.specs.Rows.{is_settled}
 use Rattle.bk_report.specs.Table.{state_text}
+use Rattle.bk_evidence.specs.declared.claims.Claims.{Claims}
 use Rattle.bk_evidence.specs.declared.item.Item.{Item}
 use Rattle.bk_evidence.specs.declared.item.Script.{Script}
 use Rattle.bk_evidence.specs.declared.report.Input.{Input}
@@ -80,7 +81,12 @@ input_line input = input.name ++ (codes " " ++ decimal input.length) ++ codes " 
 abbrev pub input_lines : List Input → List ℕ
 input_lines inputs = flat_map input_line inputs
 
--- all obligations, the sums, those by kinds, and the files
+-- what is proved, trusted and not claimed, a line each
+abbrev pub claims_lines : Claims → List ℕ
+claims_lines claims = (codes "proved: " ++ claims.proved.now) ++ (codes "\ntrusted: " ++ claims.trusted.now)
+    ++ (codes "\nnot claimed: " ++ claims.not_claimed.now) ++ codes "\n"
+
+-- all obligations, the sums, those by kinds, the files, and the claims
 abbrev pub report_lines : Report → List ℕ
 report_lines report = list_lines false report.items.items ++ sums_line (sums_over report.items.items)
-    ++ concern_lines report.items.items ++ input_lines report.inputs.items
+    ++ concern_lines report.items.items ++ input_lines report.inputs.items ++ claims_lines report.claims

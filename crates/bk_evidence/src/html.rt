@@ -1,8 +1,9 @@
 //! Reports as one page of HTML, without scripts and without other files.
 
+use crate::claims::Claims;
 use crate::item::{Item, is_settled, write_count, write_state};
 use crate::lines::concern_text;
-use crate::page::{CLAIMS, HEAD, STYLE};
+use crate::page::{FOOT, HEAD, STYLE};
 use crate::report::{Input, Report};
 use crate::sums::{Sums, sums_of, sums_with};
 use bk_io::Memory;
@@ -25,7 +26,8 @@ pub fn html_page(alloc: Global, report: &Report) -> Result<Vec<u8>, Memory> {
     write_strays(&mut page, report)?;
     write_inputs(&mut page, &report.inputs)?;
     write_tool(&mut page, report)?;
-    put(&mut page, CLAIMS)?;
+    write_claims(&mut page, report.claims)?;
+    put(&mut page, FOOT)?;
     Ok(page)
 }
 
@@ -211,5 +213,21 @@ fn write_tool(page: &mut Vec<u8>, report: &Report) -> Result<(), Memory> {
     put(page, report.version)?;
     put(page, ", proved with ")?;
     put(page, report.toolchain)?;
+    put(page, "</p>\n")
+}
+
+// What is proved, trusted and not claimed.
+fn write_claims(page: &mut Vec<u8>, claims: Claims) -> Result<(), Memory> {
+    put(page, "<h2>What this says</h2>\n")?;
+    write_claim(page, "Proved", claims.proved)?;
+    write_claim(page, "Trusted", claims.trusted)?;
+    write_claim(page, "Not claimed", claims.not_claimed)
+}
+
+fn write_claim(page: &mut Vec<u8>, name: &str, claim: &str) -> Result<(), Memory> {
+    put(page, "<p><b>")?;
+    put(page, name)?;
+    put(page, "</b>: ")?;
+    escape(page, claim.as_bytes())?;
     put(page, "</p>\n")
 }

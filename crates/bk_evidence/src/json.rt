@@ -5,8 +5,9 @@ ghost use Rattle.serde_json.specs.Data.{depth, string, put as with_member};
 ghost use Rattle.serde_json.specs.Read.{read, max_depth};
 ghost use Rattle.serde_json.specs.View.{view, members_view};
 ghost use Rattle.bk_evidence.specs.Json.{text_data, count_data, script_data, place_members, item_data, asked_data, items_data};
-ghost use Rattle.bk_evidence.specs.Json.{input_data, inputs_data, texts_data, sums_data, kinds_data, report_data};
+ghost use Rattle.bk_evidence.specs.Json.{input_data, inputs_data, texts_data, sums_data, kinds_data, claims_data, report_data};
 
+use crate::claims::Claims;
 use crate::item::{Item, Script, is_left_out, write_state};
 use crate::report::{Input, Report};
 use crate::sums::{Sums, sums_of, sums_with};
@@ -50,6 +51,7 @@ fn report_value(alloc: Global, report: &Report) -> Result<Value, Memory>
     let strays = texts_value(alloc, &report.strays)?;
     let sums = sums_value(alloc, sums_of(&report.items))?;
     let kinds = kinds_value(alloc, &report.items)?;
+    let claims = claims_value(alloc, report.claims)?;
     let mut map = Map::new(alloc);
     put_str(alloc, &mut map, "version", report.version)?;
     put_str(alloc, &mut map, "toolchain", report.toolchain)?;
@@ -59,6 +61,7 @@ fn report_value(alloc: Global, report: &Report) -> Result<Value, Memory>
     put(&mut map, alloc, "scripts_for_no_obligation", strays)?;
     put(&mut map, alloc, "sums", sums)?;
     put(&mut map, alloc, "sums_by_kind", kinds)?;
+    put(&mut map, alloc, "claims", claims)?;
     Ok(Value::Object(map))
 }
 
@@ -213,6 +216,17 @@ fn kinds_value(alloc: Global, items: &[Item]) -> Result<Value, Memory>
         sums_with(items, Concern::Definedness),
     )?;
     put_sums(alloc, &mut map, "others", sums_with(items, Concern::Other))?;
+    Ok(Value::Object(map))
+}
+
+#[tactic(auto, using(crate::proofs::Views::view_object))]
+fn claims_value(alloc: Global, claims: Claims) -> Result<Value, Memory>
+    ensures { IfOk result (λ v. view v ≡ claims_data claims) }
+{
+    let mut map = Map::new(alloc);
+    put_str(alloc, &mut map, "proved", claims.proved)?;
+    put_str(alloc, &mut map, "trusted", claims.trusted)?;
+    put_str(alloc, &mut map, "not_claimed", claims.not_claimed)?;
     Ok(Value::Object(map))
 }
 

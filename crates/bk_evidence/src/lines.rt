@@ -4,6 +4,7 @@ ghost use Rattle.std.specs.Prelude.{◌≡◌, ◌++◌, codes, IfOk, OnOk};
 ghost use Rattle.bk_evidence.specs.Items as meant;
 ghost use Rattle.bk_evidence.specs.Lines as texts;
 
+use crate::claims::Claims;
 use crate::item::{Item, Script, is_left_out, write_count, write_state};
 use crate::report::{Input, Report};
 use crate::sums::{Sums, sums_of, sums_with};
@@ -11,7 +12,7 @@ use bk_io::Memory;
 use bk_origins::Concern;
 use std::alloc::{AllocError, Global};
 
-/// The report as lines: those of all obligations, the sums, those of each kind, and a line for each file.
+/// The report as lines: those of all obligations, the sums, those of each kind, a line for each file, and what is claimed.
 pub fn report_text(alloc: Global, report: &Report) -> Result<Vec<u8>, Memory>
     ensures { IfOk result (λ text. text.items ≡ texts.report_lines report.now) }
 {
@@ -19,6 +20,7 @@ pub fn report_text(alloc: Global, report: &Report) -> Result<Vec<u8>, Memory>
     write_sums(&mut text, sums_of(&report.items))?;
     write_concerns(&mut text, &report.items)?;
     write_inputs(&mut text, &report.inputs)?;
+    write_claims(&mut text, report.claims)?;
     Ok(text)
 }
 
@@ -178,4 +180,21 @@ fn write_input(text: &mut Vec<u8>, input: &Input) -> Result<(), AllocError>
     text.extend_from_slice(b" ")?;
     text.extend_from_slice(input.digest.as_str().as_bytes())?;
     text.extend_from_slice(b"\n")
+}
+
+// What is proved, trusted and not claimed.
+fn write_claims(text: &mut Vec<u8>, claims: Claims) -> Result<(), AllocError>
+    ensures { OnOk result (text.new.items ≡ text.old.items ++ texts.claims_lines claims) }
+{
+    write_claim(text, b"proved: ", claims.proved)?;
+    write_claim(text, b"\ntrusted: ", claims.trusted)?;
+    write_claim(text, b"\nnot claimed: ", claims.not_claimed)?;
+    text.extend_from_slice(b"\n")
+}
+
+fn write_claim(text: &mut Vec<u8>, name: &[u8], claim: &str) -> Result<(), AllocError>
+    ensures { OnOk result (text.new.items ≡ text.old.items ++ (name.now ++ claim.now)) }
+{
+    text.extend_from_slice(name)?;
+    text.extend_from_slice(claim.as_bytes())
 }

@@ -22,8 +22,5 @@ pre { white-space: pre-wrap; background: #f5f5f2; padding: 0.6rem; margin: 0.4re
 @media print { body { margin: 0; max-width: none; font-size: 10pt; } tr { break-inside: avoid; } h2 { break-after: avoid; } details::details-content { content-visibility: visible; } summary { display: none; } }
 </style>\n</head>\n<body>\n";
 
-/// What the report claims and what it does not, and the end of the page.
-pub(crate) const CLAIMS: &str = "<h2>What this says</h2>
-<p>An obligation is <em>obvious</em> or <em>proved</em> where the kernel of proof, whose soundness is proved, accepts it. Where all are, the machine keeps its invariant, each component below does what the one above allows, and what is stated is defined: that is the clause <code>correct</code> of the status table. The code of the implementation then follows the machine in each legal session.</p>
-<p>Trusted are the toolchain that proved the program, the C library, the operating system and the processor. Not claimed is anything of calls past a precondition, of fuel that runs out, and of files that change while they are read. That the machine says what was meant is for its readers to judge.</p>
-</body>\n</html>\n";
+/// The end of the page.
+pub(crate) const FOOT: &str = "</body>\n</html>\n";

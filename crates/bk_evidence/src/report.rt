@@ -3,6 +3,7 @@
 ghost use Rattle.std.specs.Prelude.{◌≡◌, map, IfOk};
 ghost use Rattle.bk_evidence.specs.Items.{parts_of, parts_of_file};
 
+use crate::claims::Claims;
 use crate::item::Item;
 use bk_io::{Memory, Text};
 use sha2::{Digest, Sha256};
@@ -22,6 +23,8 @@ pub struct Report {
     /// The program's version, and the toolchain that proved it.
     pub version: &'static str,
     pub toolchain: &'static str,
+    /// What it claims, and what it does not.
+    pub claims: Claims,
     /// The name of the development's machine.
     pub machine: Text,
     /// Its project file first, then its components and proof files in their order.
