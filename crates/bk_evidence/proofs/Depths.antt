@@ -8,7 +8,7 @@ use Rattle.serde_json.specs.View.{items_of}
 use Rattle.serde_json.specs.Read.{max_depth}
 use Rattle.bk_status.specs.Rows.{is_settled}
 use Rattle.bk_report.specs.Table.{state_text}
-use Rattle.bk_evidence.specs.declared.claims.Claims.{Claims}
+use Rattle.bk_evidence.specs.declared.claim.Claims.{Claims}
 use Rattle.bk_evidence.specs.declared.item.Item.{Item}
 use Rattle.bk_evidence.specs.declared.item.Script.{Script}
 use Rattle.bk_evidence.specs.declared.report.Input.{Input}

@@ -3,7 +3,7 @@ use Rattle.std.specs.Prelude.{ℕ, nat_eq, Bool, false, cond, ◌&&◌, List, []
 use Rattle.std.specs.List.{flat_map}
 use Rattle.bk_status.specs.Rows.{is_settled}
 use Rattle.bk_report.specs.Table.{state_text}
-use Rattle.bk_evidence.specs.declared.claims.Claims.{Claims}
+use Rattle.bk_evidence.specs.declared.claim.Claims.{Claims}
 use Rattle.bk_evidence.specs.declared.item.Item.{Item}
 use Rattle.bk_evidence.specs.declared.item.Script.{Script}
 use Rattle.bk_evidence.specs.declared.report.Input.{Input}

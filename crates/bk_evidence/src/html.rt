@@ -1,6 +1,6 @@
 //! Reports as one page of HTML, without scripts and without other files.
 
-use crate::claims::Claims;
+use crate::claim::Claims;
 use crate::item::{Item, is_settled, write_count, write_state};
 use crate::lines::concern_text;
 use crate::page::{FOOT, HEAD, STYLE};

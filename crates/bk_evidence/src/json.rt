@@ -7,7 +7,7 @@ ghost use Rattle.serde_json.specs.View.{view, members_view};
 ghost use Rattle.bk_evidence.specs.Json.{text_data, count_data, script_data, place_members, item_data, asked_data, items_data};
 ghost use Rattle.bk_evidence.specs.Json.{input_data, inputs_data, texts_data, sums_data, kinds_data, claims_data, report_data};
 
-use crate::claims::Claims;
+use crate::claim::Claims;
 use crate::item::{Item, Script, is_left_out, write_state};
 use crate::report::{Input, Report};
 use crate::sums::{Sums, sums_of, sums_with};

@@ -1,7 +1,7 @@
 //! The status of a development for a safety case: what was read, what is to be shown and how far it is, as JSON and as HTML.
 #![tactic(auto)]
 
-mod claims;
+mod claim;
 mod html;
 mod item;
 mod json;
@@ -10,7 +10,7 @@ mod page;
 mod report;
 mod sums;
 
-pub use claims::{Claims, claims};
+pub use claim::{Claims, claims};
 pub use html::html_page;
 pub use item::{Item, Proof, Script, items};
 pub use json::{items_json, json_text};

@@ -4,7 +4,7 @@ ghost use Rattle.std.specs.Prelude.{◌≡◌, ◌++◌, codes, IfOk, OnOk};
 ghost use Rattle.bk_evidence.specs.Items as meant;
 ghost use Rattle.bk_evidence.specs.Lines as texts;
 
-use crate::claims::Claims;
+use crate::claim::Claims;
 use crate::item::{Item, Script, is_left_out, write_count, write_state};
 use crate::report::{Input, Report};
 use crate::sums::{Sums, sums_of, sums_with};

@@ -3,7 +3,7 @@
 ghost use Rattle.std.specs.Prelude.{◌≡◌, map, IfOk};
 ghost use Rattle.bk_evidence.specs.Items.{parts_of, parts_of_file};
 
-use crate::claims::Claims;
+use crate::claim::Claims;
 use crate::item::Item;
 use bk_io::{Memory, Text};
 use sha2::{Digest, Sha256};

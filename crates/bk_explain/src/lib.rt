@@ -2,7 +2,6 @@
 #![tactic(auto)]
 
 mod calls;
-mod explanation;
 mod image;
 mod level;
 mod limit;
@@ -11,7 +10,8 @@ mod project;
 mod say;
 mod source;
 mod spelling;
+mod stop;
 mod tree;
 
-pub use explanation::explanation;
 pub use source::{Source, SourceKind};
+pub use stop::explanation;
