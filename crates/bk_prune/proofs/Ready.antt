@@ -1,6 +1,6 @@
 -- Obligations of a list, lists item by item, and what is answered where memory is wanting.
 use Rattle.std.proofs.Common.{◌≡◌, inl, ℕ, zero, suc, ◌+◌, ◌<◌, ◌≤◌, List, [], ◌∷◌, ◌++◌, map, take, length, get_or, refl, sym, ◌∙◌, ap, subst, arith, below_more, Option, Some, None, Result, Ok, Err, IfOk}
-use Rattle.std.specs.Prelude.{Bool, true, All, Contains, IfSome}
+use Rattle.std.specs.Prelude.{Bool, true, All, Contains, IfSome, IfNone}
 use Rattle.std.specs.List.{AllZip}
 use Rattle.std.proofs.lemmas.List.{take_more, take_all}
 use Rattle.std.proofs.lemmas.Slice.Zip.{all_zipped_more}
@@ -109,6 +109,11 @@ pub none_found : {E : Type 0} (P : List RawScript → Type 0) (r : Result (Optio
 none_found P (Ok None) h = tt
 none_found P (Ok (Some list)) h = absurd (cc)
 none_found P (Err e) h = h
+
+pub none_told : {E : Type 0} (N Q : Type 0) (r : Result (Option (List RawScript)) E) → IfOk r (λ found. N → ⊥) → ((N → ⊥) → Q) → IfOk r (λ found. IfNone found Q)
+none_told N Q (Ok None) h f = f h
+none_told N Q (Ok (Some list)) h f = tt
+none_told N Q (Err e) h f = tt
 
 -- the rows so far, and one more
 pub rows_more : (old new : List Row) (i : ℕ) (row other : Row) → i < length old → row ≡ get_or old i row → i < length new → other ≡ get_or new i other → take i new ≡ take i old → other ≡ row → take (i + 1) new ≡ take (i + 1) old
