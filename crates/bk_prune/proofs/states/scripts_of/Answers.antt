@@ -1,4 +1,5 @@
-use Rattle.std.proofs.Common.{◌≡◌, ◌<◌, ◌^◌, List, [], ◌∷◌, length, map, sym, ◌∙◌, ap, subst, arith}
+use Rattle.std.proofs.Common.{◌≡◌, ◌<◌, ◌^◌, ℕ, List, [], ◌∷◌, length, map, sym, ◌∙◌, ap, subst, arith}
+use Rattle.std.specs.Global.{Vec}
 use Rattle.std.proofs.lemmas.List.{length-map}
 use Rattle.bk_p_proof.specs.Files.{AreScriptsOf, IsFaultOf}
 use Rattle.bk_raw.specs.Trees.ScriptTree.{RawScript}
@@ -8,19 +9,19 @@ use Rattle.bk_prune.proofs.states.scripts_of.Goals as goal
 
 pub scripts-requires : goal.scripts-requires
 scripts-requires c =
-    let one = ap (λ ts. length ts) c.in_ok-texts.ensures in
-    let held = ap (λ ts. length ts) c.deref.ensures.value in
-    omega (arith, one, held, length-map c.in_ok-texts.texts.items (λ own. own.items))
+    let one = ap (λ (ts : List (List ℕ)). length ts) c.in_ok-texts.ensures in
+    let held = ap (λ (ts : List (Vec ℕ)). length ts) c.deref.ensures.value in
+    omega (arith, one, held, length-map c.in_ok-texts.texts.items (λ (own : Vec ℕ). own.items))
 
 pub returns-in-Ok : goal.returns-in-Ok
 returns-in-Ok c =
-    let texts = ap (λ ts. map (λ own. own.items) ts) c.deref.ensures.value ∙ c.in_ok-texts.ensures in
+    let texts = ap (λ (ts : List (Vec ℕ)). map (λ (own : Vec ℕ). own.items) ts) c.deref.ensures.value ∙ c.in_ok-texts.ensures in
     record { read = subst (λ ts. AreScriptsOf ts c.in-Ok.list) texts c.in-Ok.ensures.value; none = tt }
 
 pub returns-in-Err : goal.returns-in-Err
 returns-in-Err c =
     let text = c.args.text.now in
-    let texts = ap (λ ts. map (λ own. own.items) ts) c.deref.ensures.value ∙ c.in_ok-texts.ensures in
+    let texts = ap (λ (ts : List (Vec ℕ)). map (λ (own : Vec ℕ). own.items) ts) c.deref.ensures.value ∙ c.in_ok-texts.ensures in
     let fault = subst (λ ts. IsFaultOf ts c.in-Err.fault) texts c.in-Err.ensures.fault in
     record {
       read = none_found (AreScriptsOf (text ∷ [])) c.no_scripts.result c.no_scripts.ensures.none;
