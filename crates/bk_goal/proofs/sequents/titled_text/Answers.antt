@@ -1,4 +1,4 @@
-use Rattle.std.proofs.Common.{◌++◌, ◌∙◌, ap, codes}
+use Rattle.std.proofs.Common.{ℕ, List, ◌++◌, ◌∙◌, ap, codes}
 use Rattle.std.specs.Prelude.{decimal}
 use Rattle.bk_goal.proofs.Lines.{titled_by}
 use Rattle.bk_goal.proofs.sequents.titled_text.Goals as goal
@@ -6,7 +6,7 @@ use Rattle.bk_goal.proofs.sequents.titled_text.Goals as goal
 pub returns : goal.returns
 returns c =
     let lines = c.in_ok-lines.lines.items in
-    let last = c.in_ok-extend_from_slice-2.ensures.items ∙ ap (λ xs. c.extend_from_slice.new.self.items ++ xs) c.deref.ensures.value in
+    let last = c.in_ok-extend_from_slice-2.ensures.items ∙ ap (λ (xs : List ℕ). c.extend_from_slice.new.self.items ++ xs) c.deref.ensures.value in
     record {
       lines = lines;
       shows = c.in_ok-lines.ensures;
