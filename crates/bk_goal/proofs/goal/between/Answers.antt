@@ -9,5 +9,5 @@ returns c =
     record {
       shown_text = shown;
       shows = c.in_ok-shown.ensures;
-      whole = joined c.in_ok-text.text.items c.extend_from_slice.new.self.items c.extend_from_slice-2.new.self.items c.args.before.now shown c.args.behind.now c.in_ok-text.ensures second c.in_ok-extend_from_slice-2.ensures.items;
+      whole = joined c.in_ok-text.text.items c.extend_from_slice.new.self.items c.extend_from_slice-2.new.self.items c.args.before.now shown c.args.behind.now c.in_ok-text.ensures.items second c.in_ok-extend_from_slice-2.ensures.items;
     }

@@ -11,5 +11,5 @@ returns c =
     record {
       formula = formula;
       shows = c.in_ok-formula.ensures;
-      line = subst (λ m. c.extend_from_slice-2.new.self.items ≡ (m ++ decimal c.args.number) ++ codes ": " ++ formula) c.mark_of-mark.ensures (joined c.write_count.new.text.items c.extend_from_slice.new.self.items c.extend_from_slice-2.new.self.items (mark ++ decimal c.args.number) (codes ": ") formula c.in_ok-write_count.ensures c.in_ok-extend_from_slice.ensures.items last);
+      line = subst (λ m. c.extend_from_slice-2.new.self.items ≡ (m ++ decimal c.args.number) ++ codes ": " ++ formula) c.mark_of-mark.ensures (joined c.in_ok-text.text.items c.extend_from_slice.new.self.items c.extend_from_slice-2.new.self.items (mark ++ decimal c.args.number) (codes ": ") formula c.in_ok-text.ensures c.in_ok-extend_from_slice.ensures.items last);
     }

@@ -10,7 +10,7 @@ returns c =
     record {
       lines = lines;
       shows = c.in_ok-lines.ensures;
-      titled = titled_by c.write_count.new.text.items c.write_count-2.new.text.items c.extend_from_slice.new.self.items c.extend_from_slice-2.new.self.items
+      titled = titled_by c.in_ok-text.text.items c.write_count.new.text.items c.extend_from_slice.new.self.items c.extend_from_slice-2.new.self.items
           (codes "sequent " ++ decimal c.args.number) (codes " of " ++ decimal c.args.count) (codes "\n") lines
-          c.in_ok-write_count.ensures c.in_ok-write_count-2.ensures c.in_ok-extend_from_slice.ensures.items last;
+          c.in_ok-text.ensures c.in_ok-write_count.ensures c.in_ok-extend_from_slice.ensures.items last;
     }
