@@ -113,7 +113,8 @@ fn are_no_longer(alloc: Global, old: &[RawScript], new: &[RawScript]) -> Result<
         return Ok(false);
     }
     for (index, script) in old.iter().enumerate() {
-        if !is_no_longer(alloc, script, &new[index])? {
+        let is_fine = is_no_longer(alloc, script, &new[index])?;
+        if !is_fine {
             return Ok(false);
         }
     }
