@@ -1,5 +1,5 @@
 -- Texts of sequents, line by line.
-use Rattle.std.proofs.Common.{◌≡◌, ℕ, zero, suc, ◌+◌, ◌<◌, ◌≤◌, Option, List, [], ◌∷◌, ◌++◌, map, take, length, get_or, refl, sym, ◌∙◌, ap, subst, arith, true, false, cond, codes, nat_lt}
+use Rattle.std.proofs.Common.{◌≡◌, ℕ, zero, suc, ◌+◌, ◌<◌, ◌≤◌, Option, List, [], ◌∷◌, ◌++◌, map, take, length, get_or, refl, sym, ◌∙◌, ap, subst, arith, false, cond, codes}
 use Rattle.std.specs.Prelude.{nat_eq, decimal}
 use Rattle.std.proofs.lemmas.Bool.Decides.{nat_tests}
 use Rattle.std.proofs.lemmas.List.{take_more, take_all, map-append, append-nil, append_assoc, length-take-le}
@@ -18,10 +18,7 @@ joined one two new a b c e f g = g ∙ ap (λ t. t ++ c) (f ∙ ap (λ t. t ++ b
 pub titled_by : (one two three new a b c d : List ℕ) → one ≡ a → two ≡ one ++ b → three ≡ two ++ c → new ≡ three ++ d → new ≡ a ++ b ++ c ++ d
 titled_by one two three new a b c d e f g h = h ∙ ap (λ t. t ++ d) (joined one two three a b c e f g)
 
--- tests of numbers
-pub is_less : (m n : ℕ) → m < n → nat_lt m n ≡ true
-is_less m n h = grind (arith, nat_tests)
-
+-- a test of numbers
 is_more : (k : ℕ) → 0 < k → nat_eq k 0 ≡ false
 is_more k h = grind (arith, nat_tests)
 

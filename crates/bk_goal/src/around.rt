@@ -7,7 +7,7 @@ ghost use Rattle.bk_goal.specs.Shown as meant;
 ghost use Rattle.bk_goal.specs.Shown.{header, title, place_of_rule};
 
 use crate::asked::Found;
-use crate::sequents::write_count;
+use crate::sequents::{count_text, write_count};
 use bk_io::{Memory, Text};
 use bk_places::place_of;
 use bk_raw::{RawRule, RawScript};
@@ -135,8 +135,7 @@ pub(crate) fn rule_line(
     ensures { IfOk result (λ text. (written : List ℕ) × (text.items ≡ meant.rule_line found number rule.now written)) }
 {
     let place = place_text(alloc, found, rule)?;
-    let mut text = Vec::new(alloc);
-    write_count(&mut text, b"rule ", number)?;
+    let mut text = count_text(alloc, b"rule ", number)?;
     text.extend_from_slice(&place)?;
     text.extend_from_slice(b": ")?;
     text.extend_from_slice(rule_text(found.text, found.tokens, rule.at))?;

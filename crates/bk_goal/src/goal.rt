@@ -214,19 +214,31 @@ fn misfit_text(
 ) -> Result<Vec<u8>, Memory>
     ensures { IfOk result (λ text. TellsMisfit (nat_lt standing.now.done count) text.items) }
 {
-    if count <= standing.done as usize {
-        return Ok(Vec::new(alloc));
+    if !is_asked(standing, count) {
+        return nothing(alloc);
     }
     let reason = reason_text(alloc, asked, found, rules, standing)?;
     reason_line(alloc, &reason)
+}
+
+// Whether the next rule is one of the first so many.
+fn is_asked(standing: &Standing, count: usize) -> bool
+    ensures { result ≡ nat_lt standing.now.done count }
+{
+    (standing.done as usize) < count
+}
+
+fn nothing(alloc: Global) -> Result<Vec<u8>, Memory>
+    ensures { IfOk result (λ text. text.items ≡ []) }
+{
+    Ok(Vec::new(alloc))
 }
 
 // A reason in a line of its own.
 fn reason_line(alloc: Global, reason: &[u8]) -> Result<Vec<u8>, Memory>
     ensures { IfOk result (λ text. TellsMisfit true text.items) }
 {
-    let mut text = Vec::new(alloc);
-    text.extend_from_slice(b"  does not fit: ")?;
+    let mut text = Vec::from_slice(alloc, b"  does not fit: ")?;
     text.extend_from_slice(reason)?;
     text.extend_from_slice(b"\n")?;
     Ok(text)

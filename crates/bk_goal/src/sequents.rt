@@ -65,8 +65,7 @@ fn titled_text(
     ensures { IfOk result (λ text. ShowsTitled table.now old number count (sequent_of sequent.now) text.items) }
 {
     let lines = sequent_text(alloc, table, notes, sequent, old)?;
-    let mut text = Vec::new(alloc);
-    write_count(&mut text, b"sequent ", number)?;
+    let mut text = count_text(alloc, b"sequent ", number)?;
     write_count(&mut text, b" of ", count)?;
     text.extend_from_slice(b"\n")?;
     text.extend_from_slice(&lines)?;
@@ -121,8 +120,7 @@ fn hypothesis_text(
 {
     let formula = formula_text(alloc, table, notes, hypothesis)?;
     let mark = mark_of(old, number);
-    let mut text = Vec::new(alloc);
-    write_count(&mut text, mark, number)?;
+    let mut text = count_text(alloc, mark, number)?;
     text.extend_from_slice(b": ")?;
     text.extend_from_slice(&formula)?;
     Ok(text)
@@ -166,6 +164,15 @@ fn names_line(alloc: Global, words: &[u8]) -> Result<Vec<u8>, Memory>
     line.extend_from_slice(words)?;
     line.extend_from_slice(b"\n")?;
     Ok(line)
+}
+
+/// A count behind words.
+pub(crate) fn count_text(alloc: Global, before: &[u8], count: usize) -> Result<Vec<u8>, Memory>
+    ensures { IfOk result (λ text. text.items ≡ before.now ++ decimal count) }
+{
+    let mut text = Vec::from_slice(alloc, before)?;
+    text.extend_from_slice(Buffer::new().format(count).as_bytes())?;
+    Ok(text)
 }
 
 /// Writes a count behind words.

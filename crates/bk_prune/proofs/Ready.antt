@@ -1,13 +1,14 @@
 -- Obligations of a list, lists item by item, and what is answered where memory is wanting.
 use Rattle.std.proofs.Common.{◌≡◌, inl, ℕ, zero, suc, ◌+◌, ◌<◌, ◌≤◌, List, [], ◌∷◌, ◌++◌, map, take, length, get_or, refl, sym, ◌∙◌, ap, subst, arith, below_more, Option, Some, None, Result, Ok, Err, IfOk}
-use Rattle.std.specs.Prelude.{Bool, true, All, Contains, IfSome}
+use Rattle.std.specs.Prelude.{Bool, true, All, Contains, IfSome, IfNone}
 use Rattle.std.specs.List.{AllZip}
 use Rattle.std.proofs.lemmas.List.{take_more, take_all}
 use Rattle.std.proofs.lemmas.Slice.Zip.{all_zipped_more}
 use Rattle.bk_form.specs.Each.{Each}
+use Rattle.bk_form.specs.Table.{Table}
 use Rattle.bk_dev.specs.Development.{Development}
 use Rattle.bk_seq.specs.declared.sequent.Sequent.{Sequent as StoredSequent}
-use Rattle.bk_seq.specs.Sequents.{Sequent, sequent_of}
+use Rattle.bk_seq.specs.Sequents.{Sequent, sequent_of, Types, IsWithin}
 use Rattle.bk_kernel.specs.Derivations.{Derives, IsVerdict}
 use Rattle.bk_kernel.specs.Standing.{in_order}
 use Rattle.bk_kernel.proofs.EachItem.{each-append}
@@ -18,6 +19,7 @@ use Rattle.bk_raw.specs.Trees.ScriptTree.{RawScript}
 use Rattle.bk_p_proof.specs.Files.{AreScriptsOf}
 use Rattle.bk_po.specs.Shown.{named_sequent}
 use Rattle.bk_po.specs.declared.obligation.Obligation.{Obligation}
+use Rattle.bk_status.specs.Replayable.{IsReplayable}
 use Rattle.bk_status.specs.Rows.{HasRows}
 use Rattle.bk_status.specs.declared.table.Row.{Row}
 use Rattle.bk_prune.specs.Pruned.{IsNoLonger, HaveSameRows, HasStatesOf, IsPrunedFile, IsWork, ProvesOne, CountsUnproved}
@@ -88,8 +90,23 @@ module _ (P : Sequent → Type 0) (held others : List StoredSequent) (first : St
   pub each_of_first : P (sequent_of first)
   each_of_first = both.0
 
-  pub each_placed : (news after : List StoredSequent) → in_order after ≡ map sequent_of news ++ in_order others → Each P (map sequent_of news) → Each P (in_order after)
-  each_placed news after placed new = subst (Each P) (sym placed) (each-append P (map sequent_of news) (in_order others) new both.1)
+  pub each_of_others : Each P (in_order others)
+  each_of_others = both.1
+
+pub each_placed : {X E : Type 0} (P : Sequent → Type 0) (news others after : List Sequent) (r : Result X E) → IfOk r (λ x. after ≡ news ++ others) → Each P news → Each P others → IfOk r (λ x. Each P after)
+each_placed P news others after (Ok x) e n o = subst (Each P) (sym e) (each-append P news others n o)
+each_placed P news others after (Err x) e n o = e
+
+pub each_replayable : (table : Table) (ss : List Sequent) → Each (Types table) ss → Each IsWithin ss → Each (IsReplayable table) ss
+each_replayable table [] t w = tt
+each_replayable table (s ∷ ss) t w = (record { types = t.0; within = w.0 }, each_replayable table ss t.1 w.1)
+
+-- ---- values that are there or not
+pub some_so : {A : Type 0} (P : A → Type 0) (o : Option A) (x : A) → o ≡ Some x → IfSome o P → P x
+some_so P o x e h = subst (λ p. IfSome p P) e h
+
+pub none_so : {A : Type 0} (Q : Type 0) (o : Option A) → o ≡ None → IfNone o Q → Q
+none_so Q o e h = subst (λ p. IfNone p Q) e h
 
 -- ---- states
 pub has_states : {E : Type 0} (dev : Development) (before : List RawScript) (text : List ℕ) (after : List RawScript) → AreScriptsOf (text ∷ []) after → (r : Result Bool E) → IfOk r (λ have. have ≡ true → AllZip IsNoLonger before after) → IfOk r (λ have. have ≡ true → HaveSameRows dev before after) → IfOk r (λ has. has ≡ true → HasStatesOf dev before text)
@@ -109,6 +126,11 @@ pub none_found : {E : Type 0} (P : List RawScript → Type 0) (r : Result (Optio
 none_found P (Ok None) h = tt
 none_found P (Ok (Some list)) h = absurd (cc)
 none_found P (Err e) h = h
+
+pub none_told : {E : Type 0} (N Q : Type 0) (r : Result (Option (List RawScript)) E) → IfOk r (λ found. N → ⊥) → ((N → ⊥) → Q) → IfOk r (λ found. IfNone found Q)
+none_told N Q (Ok None) h f = f h
+none_told N Q (Ok (Some list)) h f = tt
+none_told N Q (Err e) h f = tt
 
 -- the rows so far, and one more
 pub rows_more : (old new : List Row) (i : ℕ) (row other : Row) → i < length old → row ≡ get_or old i row → i < length new → other ≡ get_or new i other → take i new ≡ take i old → other ≡ row → take (i + 1) new ≡ take (i + 1) old

@@ -5,7 +5,7 @@ use Rattle.bk_form.specs.Table.{Table}
 use Rattle.bk_form.specs.Each.{Each}
 use Rattle.bk_dev.specs.Development.{Development}
 use Rattle.bk_dev.specs.Flattened.{flattened}
-use Rattle.bk_seq.specs.Sequents.{sequent_of, Types, IsWithin}
+use Rattle.bk_seq.specs.Sequents.{sequent_of}
 use Rattle.bk_raw.specs.Trees.ScriptTree.{RawScript}
 use Rattle.bk_p_proof.specs.Files.{AreScriptsOf}
 use Rattle.bk_po.specs.Shown.{named_sequent}
@@ -71,6 +71,5 @@ pub record IsWork (dev : Development) (list : List Obligation) (script : RawScri
   pub named : obligation.name ≡ name_text script.name
   pub own : sequent_of work.sequent ≡ sequent_of obligation.sequent
   pub grounded : IsGrounded (flattened dev) script work.rules.items work.table
-  pub types : Types work.table (sequent_of work.sequent)
-  pub within : IsWithin (sequent_of work.sequent)
+  pub replayable : IsReplayable work.table (sequent_of work.sequent)
   pub countable : length work.rules.items < 2 ^ 32

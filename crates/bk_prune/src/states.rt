@@ -1,6 +1,6 @@
 //! Whether a text proves what scripts prove.
 
-ghost use Rattle.std.specs.Prelude.{◌≡◌, true, List, [], ◌∷◌, length, map, Ok, None, IfOk, IfSome};
+ghost use Rattle.std.specs.Prelude.{◌≡◌, true, List, [], ◌∷◌, length, map, None, IfOk, IfSome, IfNone};
 ghost use Rattle.std.specs.List.{AllZip};
 ghost use Rattle.bk_raw.specs.Trees.ScriptTree.{RawScript as ScriptTree};
 ghost use Rattle.bk_p_proof.specs.Files.{AreScriptsOf};
@@ -20,7 +20,7 @@ use std::alloc::Global;
 /// The scripts of a text; None where it is no proof file.
 pub(crate) fn scripts_of(alloc: Global, text: &[u8]) -> Result<Option<Scripts>, Memory>
     ensures read { IfOk result (λ found. IfSome found (λ list. AreScriptsOf (text.now ∷ []) list)) }
-    ensures none { result ≡ Ok None → (list : List ScriptTree) → AreScriptsOf (text.now ∷ []) list → ⊥ }
+    ensures none { IfOk result (λ found. IfNone found ((list : List ScriptTree) → AreScriptsOf (text.now ∷ []) list → ⊥)) }
 {
     faults_exclude();
     let texts = one_text(alloc, text)?;
@@ -40,7 +40,7 @@ fn one_text(alloc: Global, text: &[u8]) -> Result<Vec<Vec<u8>>, Memory>
 // What is found where there is this fault.
 fn no_scripts(fault: ScriptFault) -> Result<Option<Scripts>, Memory>
     ensures none { IfOk result (λ found. found ≡ None) }
-    ensures fault { result ≡ Ok None → fault ≡ ScriptFault.Memory → ⊥ }
+    ensures fault { IfOk result (λ found. fault ≡ ScriptFault.Memory → ⊥) }
 {
     match fault {
         ScriptFault::Memory => Err(Memory),
@@ -113,7 +113,8 @@ fn are_no_longer(alloc: Global, old: &[RawScript], new: &[RawScript]) -> Result<
         return Ok(false);
     }
     for (index, script) in old.iter().enumerate() {
-        if !is_no_longer(alloc, script, &new[index])? {
+        let is_fine = is_no_longer(alloc, script, &new[index])?;
+        if !is_fine {
             return Ok(false);
         }
     }

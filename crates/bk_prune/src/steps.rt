@@ -1,8 +1,10 @@
 //! What each rule of a proof makes.
 
-ghost use Rattle.std.specs.Prelude.{map, IfOk, IfSome};
+ghost use Rattle.std.specs.Prelude.{◌≡◌, ◌++◌, map, OnOk};
 ghost use Rattle.bk_form.specs.Each.{Each};
-ghost use Rattle.bk_seq.specs.Sequents.{sequent_of, Types, IsWithin};
+ghost use Rattle.bk_seq.specs.Sequents.{sequent_of};
+ghost use Rattle.bk_kernel.specs.Standing.{in_order};
+ghost use Rattle.bk_status.specs.Replayable.{IsReplayable};
 
 use crate::work::again;
 use bk_form::VarTable;
@@ -37,22 +39,17 @@ pub(crate) fn steps(
     sequent: Sequent,
     rules: &[Rule],
 ) -> Result<Option<Vec<Step>>, Memory>
-    requires types { Types types.now (sequent_of sequent) }
-    requires within { IsWithin (sequent_of sequent) }
+    requires { IsReplayable types.now (sequent_of sequent) }
 {
     let mut steps = Vec::new(alloc);
     // the first open sequent stands last
     let mut open = Vec::new(alloc);
     open.push(sequent)?;
     for rule in rules {
-        let Some(first) = open.pop() else {
-            return Ok(None);
-        };
-        let Some((made, news)) = stepped(alloc, types, first, rule)? else {
+        let Some(made) = advanced(alloc, types, &mut open, rule)? else {
             return Ok(None);
         };
         steps.push(made)?;
-        put_first(&mut open, news)?;
     }
     if open.is_empty() {
         return Ok(Some(steps));
@@ -60,24 +57,54 @@ pub(crate) fn steps(
     Ok(None)
 }
 
-// What a rule makes of a sequent, and the sequents that come of it; None where it is no step.
-fn stepped(
+// What a rule makes of the first open sequent, which stands last: what comes of it stands in its place. None where it is no step.
+fn advanced(
     alloc: Global,
     types: &VarTable,
-    sequent: Sequent,
+    open: &mut Vec<Sequent>,
     rule: &Rule,
-) -> Result<Option<(Step, Vec<Sequent>)>, Memory>
-    requires types { Types types.now (sequent_of sequent) }
-    requires within { IsWithin (sequent_of sequent) }
-    ensures types { IfOk result (λ found. IfSome found (λ p. Each (Types types.now) (map sequent_of p.1.items))) }
-    ensures within { IfOk result (λ found. IfSome found (λ p. Each IsWithin (map sequent_of p.1.items))) }
+) -> Result<Option<Step>, Memory>
+    requires { Each (IsReplayable types.now) (in_order open.old.items) }
+    ensures { OnOk result (Each (IsReplayable types.now) (in_order open.new.items)) }
 {
-    let before = again(alloc, &sequent)?;
-    match bk_kernel::step(alloc, types, sequent, rule) {
-        Ok(news) => Ok(Some((made(alloc, &before, &news)?, news))),
+    match open.pop() {
+        Some(first) => replaced(alloc, types, open, first, rule),
+        None => Ok(None),
+    }
+}
+
+// What a rule makes of a sequent, before the other open ones.
+fn replaced(
+    alloc: Global,
+    types: &VarTable,
+    open: &mut Vec<Sequent>,
+    first: Sequent,
+    rule: &Rule,
+) -> Result<Option<Step>, Memory>
+    requires first { IsReplayable types.now (sequent_of first) }
+    requires others { Each (IsReplayable types.now) (in_order open.old.items) }
+    ensures { OnOk result (Each (IsReplayable types.now) (in_order open.new.items)) }
+{
+    let before = again(alloc, &first)?;
+    match bk_kernel::step(alloc, types, first, rule) {
+        Ok(news) => put_news(alloc, open, &before, news),
         Err(StepFault::NoInstance) => Ok(None),
         Err(StepFault::Memory) => Err(Memory),
     }
+}
+
+// Puts what comes of a sequent before the other open ones.
+fn put_news(
+    alloc: Global,
+    open: &mut Vec<Sequent>,
+    before: &Sequent,
+    news: Vec<Sequent>,
+) -> Result<Option<Step>, Memory>
+    ensures { OnOk result (in_order open.new.items ≡ map sequent_of news.items ++ in_order open.old.items) }
+{
+    let step = made(alloc, before, &news)?;
+    put_first(open, news)?;
+    Ok(Some(step))
 }
 
 // What a rule makes of this sequent, of which these come.

@@ -1,4 +1,5 @@
-use Rattle.std.proofs.Common.{map, take, length, ◌∙◌, ap, subst}
+use Rattle.std.proofs.Common.{List, map, take, length, ◌∙◌, ap, subst}
+use Rattle.bk_seq.specs.declared.sequent.Sequent.{Sequent as StoredSequent}
 use Rattle.bk_seq.specs.Sequents.{sequent_of}
 use Rattle.bk_replay.specs.Standing.{IsFurthest}
 use Rattle.bk_goal.specs.Shown.{hypotheses_of_first, came_of_first}
@@ -11,7 +12,7 @@ returns c =
     let rules = c.args.rules.now in
     let st = c.in_ok-before.before in
     let there = ap (map sequent_of) c.deref.ensures.value in
-    let left = ap (λ held. length (map sequent_of held)) c.deref-2.ensures.value in
+    let left = ap (λ (held : List StoredSequent). length (map sequent_of held)) c.deref-2.ensures.value in
     record {
       done = st.done;
       before = map sequent_of st.left.items;

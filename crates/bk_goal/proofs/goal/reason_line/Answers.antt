@@ -5,6 +5,6 @@ use Rattle.bk_goal.proofs.goal.reason_line.Goals as goal
 pub returns : goal.returns
 returns c = (
   c.args.reason.now,
-  joined c.extend_from_slice.new.self.items c.extend_from_slice-2.new.self.items c.extend_from_slice-3.new.self.items (codes "  does not fit: ") c.args.reason.now (codes "\n")
-      c.in_ok-extend_from_slice.ensures.items c.in_ok-extend_from_slice-2.ensures.items c.in_ok-extend_from_slice-3.ensures.items,
+  joined c.in_ok-text.text.items c.extend_from_slice.new.self.items c.extend_from_slice-2.new.self.items (codes "  does not fit: ") c.args.reason.now (codes "\n")
+      c.in_ok-text.ensures.items c.in_ok-extend_from_slice.ensures.items c.in_ok-extend_from_slice-2.ensures.items,
 )

@@ -22,7 +22,6 @@ returns c =
       named = c.in-Some.ensures.1 ∙ c.deref-2.ensures.value ∙ c.in_ok-name.ensures ∙ ap name_text (c.deref.ensures.value ∙ ap (λ z. z.name) c.script.view_is);
       own = c.in_ok-sequent.ensures;
       grounded = c.in_ok-rules.ensures;
-      types = subst (Types table) (sym c.in_ok-sequent.ensures) wide;
-      within = subst IsWithin (sym c.in_ok-sequent.ensures) here.within;
+      replayable = record { types = subst (Types table) (sym c.in_ok-sequent.ensures) wide; within = subst IsWithin (sym c.in_ok-sequent.ensures) here.within };
       countable = countable dev c.facts.ensures script rules table c.in_ok-rules.ensures c.requires.short;
     }
