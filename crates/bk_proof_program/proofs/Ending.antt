@@ -3,7 +3,7 @@ use Rattle.std.proofs.Common.{◌≡◌, ◌⊎◌, inl, inr, ◌∙◌, ℕ, Li
 use Rattle.std.proofs.lemmas.List.{append-nil, append_assoc}
 use Rattle.bk_io.specs.Files.{Files}
 use Rattle.bk_io.specs.Pieces.{written_with}
-use Rattle.bk_verbs.specs.Stops.{IsCutShort, Reports, stop_text, status_of_stop}
+use Rattle.bk_verbs.specs.Stops.{IsCutShort, Reports, stop_text}
 use Rattle.bk_verbs.specs.declared.stop.Stop.{Stop}
 use Rattle.bk_verbs.specs.declared.status.Status.{Status}
 use Rattle.bk_verbs.specs.declared.status.Status.TheVariants.{Done, Usage, Missing, Refused, Unproved, Incomplete, BadCalls, Trapped, OutOfFuel, BadImage, ReadFault, WriteFault, Memory}

@@ -1,6 +1,5 @@
-use Rattle.std.proofs.Common.{◌≡◌, ◌∙◌, ◌∷◌, [], Some, get_or, subst, sym, rules}
+use Rattle.std.proofs.Common.{◌∙◌, [], subst, sym, rules}
 use Rattle.bk_form.specs.Each.{Each}
-use Rattle.bk_io.specs.Files.{Files}
 use Rattle.bk_verbs.specs.Project.{IsTold}
 use Rattle.bk_proof_program.specs.Texts.{IsToldFile}
 use Rattle.bk_proof_program.proofs.Texts.{each_more, named_more, named_all}

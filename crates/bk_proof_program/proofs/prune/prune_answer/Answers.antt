@@ -1,9 +1,8 @@
-use Rattle.std.proofs.Common.{◌≡◌, ◌∙◌, Some, None, true, find, option_map, refl, sym, subst, ap}
+use Rattle.std.proofs.Common.{◌≡◌, ◌∙◌, Some, None, find, option_map, refl, sym, subst, ap}
 use Rattle.std.specs.Str.{bytes_eq}
 use Rattle.bk_verbs.specs.Project.{IsTold, proof_files}
-use Rattle.bk_prune.specs.Pruned.{IsReady, IsPrunedFile, CountsUnproved}
+use Rattle.bk_prune.specs.Pruned.{IsPrunedFile, CountsUnproved}
 use Rattle.bk_proof_program.specs.Prunes.{IsPrunedIfNamed}
-use Rattle.bk_proof_program.proofs.Texts.{names_in}
 use Rattle.bk_proof_program.proofs.Finding.{IfFound, find_map, found_told}
 use Rattle.bk_proof_program.proofs.prune.prune_answer.Goals as goal
 
