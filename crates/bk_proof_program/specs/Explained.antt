@@ -1,5 +1,6 @@
 -- What `explain` answers.
-use Rattle.std.specs.Prelude.{ℕ, ◌⊎◌, Bool, true, false, List, Option, Some, None, Bor, Vec}
+use Rattle.std.specs.Prelude.{ℕ, ◌⊎◌, Bool, true, false, List, Option, Some, None, Vec}
+use Rattle.std.specs.Borrow.{Bor}
 use Rattle.std.specs.declared.alloc.Global.{Global}
 use Rattle.bk_limits.specs.declared.TheConstants.{FUEL}
 use Rattle.bk_io.specs.Files.{Files}
