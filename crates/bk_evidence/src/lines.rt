@@ -184,7 +184,7 @@ fn write_input(text: &mut Vec<u8>, input: &Input) -> Result<(), AllocError>
 
 // What is proved, trusted and not claimed.
 fn write_claims(text: &mut Vec<u8>, claims: Claims) -> Result<(), AllocError>
-    ensures { OnOk result (text.new.items ≡ text.old.items ++ texts.claims_lines claims) }
+    ensures { OnOk result (text.new.items ≡ text.old.items ++ texts.claims_lines claims.entry) }
 {
     write_claim(text, b"proved: ", claims.proved)?;
     write_claim(text, b"\ntrusted: ", claims.trusted)?;

@@ -34,7 +34,7 @@ pub(crate) fn explain_answer<H: Shelf>(
     ensures reading { IfErr result IsOfReading }
     ensures failed { HasCause ReadFault (H.faults shelf.old) (H.faults shelf.new) result }
     ensures stops { IfOk result (λ found. IfSome found (λ p. IsOfReading p.0 × (p.0 ≢ ReadFault))) }
-    ensures told { IfOk result (λ found. (files : Files) → H.files shelf.old ≡ Some files → IsExplained files (task_asked asked) found) }
+    ensures told { IfOk result (λ found. (files : Files) → H.files shelf.old ≡ Some files → IsExplained files (task_asked asked.entry) found) }
 {
     let command = command_of(asked);
     let stop = match prepare(alloc, command, shelf) {
@@ -58,7 +58,7 @@ fn is_of_reading(stop: &Stop) -> bool
 // What `bkit` is to check.
 fn command_of(asked: Question<'_>) -> Command<'_>
     ensures small { HasSmallNumbers result }
-    ensures task { task_of result ≡ task_asked asked }
+    ensures task { task_of result ≡ task_asked asked.entry }
 {
     let fuel = FUEL;
     match asked.calls {

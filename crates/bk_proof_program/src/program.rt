@@ -164,7 +164,7 @@ fn text_of<H: Shelf>(
     shelf: &mut H,
 ) -> Result<(Vec<u8>, Status), Stop>
     ensures failed { HasCause ReadFault (H.faults shelf.old) (H.faults shelf.new) result }
-    ensures told { IfOk result (λ p. (files : Files) → H.files shelf.old ≡ Some files → AnswersTask files asked p.0.items p.1) }
+    ensures told { IfOk result (λ p. (files : Files) → H.files shelf.old ≡ Some files → AnswersTask files asked.entry p.0.items p.1) }
     ensures ok { IfOk result (λ p. IsEnd p.1) }
     ensures err { IfErr result (λ stop. IsOfReading stop ⊎ (stop ≡ Usage)) }
 {
