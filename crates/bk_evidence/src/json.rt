@@ -221,7 +221,7 @@ fn kinds_value(alloc: Global, items: &[Item]) -> Result<Value, Memory>
 
 #[tactic(auto, using(crate::proofs::Views::view_object))]
 fn claims_value(alloc: Global, claims: Claims) -> Result<Value, Memory>
-    ensures { IfOk result (λ v. view v ≡ claims_data claims) }
+    ensures { IfOk result (λ v. view v ≡ claims_data claims.entry) }
 {
     let mut map = Map::new(alloc);
     put_str(alloc, &mut map, "proved", claims.proved)?;
