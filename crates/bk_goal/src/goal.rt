@@ -124,7 +124,7 @@ fn behind_grounded(
     let count = count_asked(asked.at, rules.len());
     let before = again(alloc, &sequent)?;
     let standing = open_after(alloc, table, sequent, rules, count)?;
-    let new = last_brought(alloc, table, before, rules, &standing)?;
+    let brought = last_brought(alloc, table, before, rules, &standing)?;
     let name = &asked.obligation.name;
     let header = header_text(alloc, name, found, standing.done as usize, rules.len())?;
     let next = next_text(alloc, asked, found, rules, &standing, count)?;
