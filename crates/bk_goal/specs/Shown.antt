@@ -149,6 +149,10 @@ abbrev pub TellsNext : Found → (k asked left : ℕ) → Option RawRule → Lis
 TellsNext found k asked left None text = text ≡ end_text left
 TellsNext found k asked left (Some rule) text = TellsRule found k asked rule text
 
+-- what comes behind the first k rules of the script, where these sequents are left
+abbrev pub TellsRest : Found → (k asked : ℕ) → List Sequent → List ℕ → Type 0
+TellsRest found k asked left text = TellsNext found k asked (length left) (numbered_item found.script.now.rules (k + 1)) text
+
 -- what is said of an obligation without a script
 abbrev pub words_alone : Bool → List ℕ
 words_alone is_open = cond is_open (codes ", no script\n") (codes ", obvious: it needs no script\n")
@@ -180,7 +184,7 @@ pub record ShowsAfter (dev : Development) (found : Found) (at : Option ℕ) (o :
   pub brought : Brought
   pub brings : IsBrought table rules o.1 k left brought
   pub next : List ℕ
-  pub tells : TellsNext found k (count_asked at (length rules)) (length left) (numbered_item found.script.now.rules (k + 1)) next
+  pub tells : TellsRest found k (count_asked at (length rules)) left next
   pub shows : ShowsBetween (header o.0 found k (length rules)) next table brought left text
   pub open_is : is_open ≡ (nat_lt k (count_asked at (length rules)) || nat_lt 0 (length left))
 

@@ -1,8 +1,7 @@
 //! What is open behind the rules of a script.
 
-ghost use Rattle.std.specs.Prelude.{◌≡◌, ◌+◌, ◌<◌, ◌^◌, ◌||◌, true, nat_lt, [], ◌∷◌, length, map, IfOk, IfSome};
+ghost use Rattle.std.specs.Prelude.{◌≡◌, ◌<◌, ◌^◌, ◌||◌, true, nat_lt, [], ◌∷◌, length, map, IfOk, IfSome};
 ghost use Rattle.bk_dev.specs.Flattened.{flattened};
-ghost use Rattle.bk_seq.specs.Paths.{numbered_item};
 ghost use Rattle.bk_seq.specs.Sequents.{sequent_of, Types, IsWithin};
 ghost use Rattle.bk_po.specs.Shown.{named_sequent};
 ghost use Rattle.bk_status.specs.Replayable.{IsReplayable};
@@ -10,7 +9,7 @@ ghost use Rattle.bk_p_proof.specs.Files.{IsShort};
 ghost use Rattle.bk_scripts.specs.Grounding.{IsGrounded};
 ghost use Rattle.bk_goal.specs.Shown as meant;
 ghost use Rattle.bk_goal.specs.Shown.{ShowsGoal, ShowsAfter, ShowsAlone, ShowsBetween};
-ghost use Rattle.bk_goal.specs.Shown.{TellsNext, TellsRule, TellsMisfit};
+ghost use Rattle.bk_goal.specs.Shown.{TellsRest, TellsRule, TellsMisfit};
 
 use crate::around::{end_text, header_text, rule_at, rule_line, title_alone};
 use crate::asked::{Asked, Found};
@@ -125,7 +124,7 @@ fn behind_grounded(
     let count = count_asked(asked.at, rules.len());
     let before = again(alloc, &sequent)?;
     let standing = open_after(alloc, table, sequent, rules, count)?;
-    let new = last_brought(alloc, table, before, rules, &standing)?;
+    let brought = last_brought(alloc, table, before, rules, &standing)?;
     let name = &asked.obligation.name;
     let header = header_text(alloc, name, found, standing.done as usize, rules.len())?;
     let next = next_text(alloc, asked, found, rules, &standing, count)?;
@@ -176,8 +175,8 @@ fn next_text(
     standing: &Standing,
     count: usize,
 ) -> Result<Vec<u8>, Memory>
-    ensures { IfOk result (λ text. TellsNext found standing.now.done count (length (map sequent_of standing.now.left.items))
-        (numbered_item found.script.now.rules (standing.now.done + 1)) text.items) }
+    ensures { IfOk result (λ text.
+        TellsRest found standing.now.done count (map sequent_of standing.now.left.items) text.items) }
 {
     match rule_at(found.script, standing.done as usize + 1) {
         Some(rule) => rule_told(alloc, asked, found, rules, standing, count, rule),

@@ -41,7 +41,8 @@ pub record HasStatesOf (dev : Development) (before : List RawScript) (text : Lis
 
 -- the new text reads as scripts that prove what those of the old text proved; a text for which this does not hold stays as it is
 abbrev pub IsPrunedFile : Development → List ℕ → List ℕ → Type 0
-IsPrunedFile dev text pruned = (pruned ≡ text) ⊎ ((before : List RawScript) × AreScriptsOf (text ∷ []) before × HasStatesOf dev before pruned)
+IsPrunedFile dev text pruned =
+    (pruned ≡ text) ⊎ ((before : List RawScript) × AreScriptsOf (text ∷ []) before × HasStatesOf dev before pruned)
 
 -- ---- scripts that prove something
 -- the rules that the script stands for derive the sequent of an obligation of the list that has its name
@@ -56,7 +57,8 @@ pub record ProvesOne (dev : Development) (list : List Obligation) (script : RawS
 
 -- where none of a text's scripts is told to prove nothing, each proves an obligation of the list
 abbrev pub CountsUnproved : Development → List Obligation → List ℕ → ℕ → Type 0
-CountsUnproved dev list text unproved = (before : List RawScript) → AreScriptsOf (text ∷ []) before → unproved ≡ 0 → All (ProvesOne dev list) before
+CountsUnproved dev list text unproved =
+    (before : List RawScript) → AreScriptsOf (text ∷ []) before → unproved ≡ 0 → All (ProvesOne dev list) before
 
 -- ---- what a plan is made of
 -- the table of a development's obligations, and obligations on which rules are replayed

@@ -1,9 +1,8 @@
 use Rattle.std.proofs.Common.{map, take, length, nat_lt, sym, ◌∙◌, ap, subst}
-use Rattle.std.specs.Prelude.{◌||◌, ◌+◌}
-use Rattle.bk_seq.specs.Paths.{numbered_item}
+use Rattle.std.specs.Prelude.{◌||◌}
 use Rattle.bk_seq.specs.Sequents.{Types, IsWithin, sequent_of}
 use Rattle.bk_replay.specs.Standing.{IsFurthest}
-use Rattle.bk_goal.specs.Shown.{IsBrought, ShowsBetween, TellsNext}
+use Rattle.bk_goal.specs.Shown.{IsBrought, TellsRest}
 use Rattle.bk_goal.proofs.Lines.{put_between}
 use Rattle.bk_goal.proofs.goal.behind_grounded.Goals as goal
 
@@ -31,10 +30,10 @@ returns c =
       k = st.done;
       left = left;
       furthest = subst (λ n. IsFurthest table (take n rules) s st.done left) asked c.in_ok-standing.ensures.furthest;
-      brought = c.in_ok-new.new;
-      brings = subst (λ t. IsBrought table rules t st.done left c.in_ok-new.new) c.in_ok-before.ensures c.in_ok-new.ensures;
+      brought = c.in_ok-brought.brought;
+      brings = subst (λ t. IsBrought table rules t st.done left c.in_ok-brought.brought) c.in_ok-before.ensures c.in_ok-brought.ensures;
       next = next;
-      tells = subst (λ n. TellsNext found st.done n (length left) (numbered_item found.script.now.rules (st.done + 1)) next) asked c.in_ok-next.ensures;
-      shows = put_between table c.in_ok-new.new c.in_ok-text.text.items c.deref-2.ensures.value c.in_ok-header.ensures c.deref-3.ensures.value c.deref.ensures.value c.in_ok-text.ensures;
+      tells = subst (λ n. TellsRest found st.done n left next) asked c.in_ok-next.ensures;
+      shows = put_between table c.in_ok-brought.brought c.in_ok-text.text.items c.deref-2.ensures.value c.in_ok-header.ensures c.deref-3.ensures.value c.deref.ensures.value c.in_ok-text.ensures;
       open_is = c.is_left-is_open.ensures ∙ ap (λ n. nat_lt st.done n || nat_lt 0 (length left)) asked;
     }

@@ -1,7 +1,6 @@
 use Rattle.std.proofs.Common.{sym, subst}
 use Rattle.std.specs.Prelude.{IfOk}
 use Rattle.bk_dev.specs.Flattened.{flattened}
-use Rattle.bk_seq.specs.Sequents.{sequent_of}
 use Rattle.bk_po.specs.Shown.{named_sequent}
 use Rattle.bk_status.specs.Replayable.{IsReplayable}
 use Rattle.bk_goal.specs.Shown.{ShowsGoal, ShowsAfter, ShowsAlone}

@@ -1,6 +1,5 @@
-use Rattle.std.proofs.Common.{inr, ◌∙◌, subst, sym}
+use Rattle.std.proofs.Common.{inr, subst}
 use Rattle.std.specs.Prelude.{All}
-use Rattle.bk_p_proof.specs.Files.{IsShort}
 use Rattle.bk_prune.specs.Pruned.{HasStatesOf, ProvesOne}
 use Rattle.bk_prune.proofs.Ready.{kept_as_it_is, counted_so}
 use Rattle.bk_prune.proofs.file.prune_scripts.Goals as goal
