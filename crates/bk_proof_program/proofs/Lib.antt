@@ -1,0 +1,4 @@
+pub mod Texts
+pub mod FirstScripts
+pub mod Finding
+pub mod Ending
