@@ -42,7 +42,7 @@ pub(crate) fn header_text(
     done: usize,
     rules: usize,
 ) -> Result<Vec<u8>, Memory>
-    ensures { IfOk result (λ text. text.items ≡ header name.now found done rules) }
+    ensures { IfOk result (λ text. text.items ≡ header name.now found.entry done rules) }
 {
     let mut text = title_text(alloc, name, done, rules)?;
     let place = place_behind(alloc, found, done)?;
@@ -84,7 +84,7 @@ fn title_after(alloc: Global, name: &Text, done: usize, rules: usize) -> Result<
 
 // The place of the rule with this number, if there is one.
 fn place_behind(alloc: Global, found: Found<'_>, number: usize) -> Result<Vec<u8>, Memory>
-    ensures { IfOk result (λ text. text.items ≡ place_of_rule found (numbered_item found.script.now.rules number)) }
+    ensures { IfOk result (λ text. text.items ≡ place_of_rule found.entry (numbered_item found.entry.script.now.rules number)) }
 {
     match rule_at(found.script, number) {
         Some(rule) => place_text(alloc, found, rule),
@@ -107,14 +107,14 @@ fn numbered(rules: &[RawRule], number: usize) -> Option<&RawRule>
 }
 
 fn place_text(alloc: Global, found: Found<'_>, rule: &RawRule) -> Result<Vec<u8>, Memory>
-    ensures { IfOk result (λ text. text.items ≡ place_of_rule found (Some rule.now)) }
+    ensures { IfOk result (λ text. text.items ≡ place_of_rule found.entry (Some rule.now)) }
 {
     text_of_place(alloc, found, rule.at)
 }
 
 // ` (Tally.prf:2:46)`.
 fn text_of_place(alloc: Global, found: Found<'_>, at: usize) -> Result<Vec<u8>, Memory>
-    ensures { IfOk result (λ text. text.items ≡ meant.place_text found.file.now found.text.now at) }
+    ensures { IfOk result (λ text. text.items ≡ meant.place_text found.entry.file.now found.entry.text.now at) }
 {
     let place = place_of(found.text, at);
     let mut text = Vec::from_slice(alloc, b" (")?;
@@ -132,7 +132,7 @@ pub(crate) fn rule_line(
     number: usize,
     rule: &RawRule,
 ) -> Result<Vec<u8>, Memory>
-    ensures { IfOk result (λ text. (written : List ℕ) × (text.items ≡ meant.rule_line found number rule.now written)) }
+    ensures { IfOk result (λ text. (written : List ℕ) × (text.items ≡ meant.rule_line found.entry number rule.now written)) }
 {
     let place = place_text(alloc, found, rule)?;
     let mut text = count_text(alloc, b"rule ", number)?;

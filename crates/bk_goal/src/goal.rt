@@ -39,8 +39,8 @@ pub fn goal_text(alloc: Global, asked: Asked<'_>) -> Result<GoalText, Memory>
     requires table { asked.table.now ≡ (flattened asked.dev.now).table }
     requires replayable { IsReplayable asked.table.now (sequent_of asked.obligation.now.sequent) }
     requires short { IfSome asked.found (λ f. IsShort f.script.now) }
-    ensures { IfOk result (λ g. ShowsGoal (flattened asked.dev.now) asked.found asked.at
-        (named_sequent asked.obligation.now) g.text.items g.is_open) }
+    ensures { IfOk result (λ g. ShowsGoal (flattened asked.entry.dev.now) asked.entry.found asked.entry.at
+        (named_sequent asked.entry.obligation.now) g.text.items g.is_open) }
 {
     let sequent = again(alloc, &asked.obligation.sequent)?;
     match asked.found {
@@ -51,7 +51,8 @@ pub fn goal_text(alloc: Global, asked: Asked<'_>) -> Result<GoalText, Memory>
 
 // The obligation itself.
 fn alone(alloc: Global, asked: Asked<'_>, sequent: Sequent) -> Result<GoalText, Memory>
-    ensures { IfOk result (λ g. ShowsAlone asked.table.now (asked.obligation.now.name, sequent_of sequent) g.text.items g.is_open) }
+    ensures { IfOk result (λ g.
+        ShowsAlone asked.entry.table.now (asked.entry.obligation.now.name, sequent_of sequent) g.text.items g.is_open) }
 {
     let is_open = !is_obvious(&sequent);
     let before = title_alone(alloc, &asked.obligation.name, is_open)?;
@@ -97,8 +98,8 @@ fn behind_rules(
     requires table { asked.table.now ≡ (flattened asked.dev.now).table }
     requires replayable { IsReplayable asked.table.now (sequent_of sequent) }
     requires short { IsShort found.script.now }
-    ensures { IfOk result (λ g. ShowsAfter (flattened asked.dev.now) found asked.at
-        (asked.obligation.now.name, sequent_of sequent) g.text.items g.is_open) }
+    ensures { IfOk result (λ g. ShowsAfter (flattened asked.entry.dev.now) found.entry asked.entry.at
+        (asked.entry.obligation.now.name, sequent_of sequent) g.text.items g.is_open) }
 {
     asked.dev.facts();
     let (rules, table) = ground(alloc, found.script, asked.dev, asked.table)?;
@@ -118,8 +119,8 @@ fn behind_grounded(
     requires types { Types table.now (sequent_of sequent) }
     requires within { IsWithin (sequent_of sequent) }
     requires countable { length rules.now < 2 ^ 32 }
-    ensures { IfOk result (λ g. ShowsAfter (flattened asked.dev.now) found asked.at
-        (asked.obligation.now.name, sequent_of sequent) g.text.items g.is_open) }
+    ensures { IfOk result (λ g. ShowsAfter (flattened asked.entry.dev.now) found.entry asked.entry.at
+        (asked.entry.obligation.now.name, sequent_of sequent) g.text.items g.is_open) }
 {
     let count = count_asked(asked.at, rules.len());
     let before = again(alloc, &sequent)?;
@@ -133,7 +134,7 @@ fn behind_grounded(
         table,
         asked.notes,
         &standing.left,
-        new,
+        brought,
         &header,
         &next,
     )?;
@@ -176,7 +177,7 @@ fn next_text(
     count: usize,
 ) -> Result<Vec<u8>, Memory>
     ensures { IfOk result (λ text.
-        TellsRest found standing.now.done count (map sequent_of standing.now.left.items) text.items) }
+        TellsRest found.entry standing.now.done count (map sequent_of standing.now.left.items) text.items) }
 {
     match rule_at(found.script, standing.done as usize + 1) {
         Some(rule) => rule_told(alloc, asked, found, rules, standing, count, rule),
@@ -194,7 +195,7 @@ fn rule_told(
     count: usize,
     rule: &RawRule,
 ) -> Result<Vec<u8>, Memory>
-    ensures { IfOk result (λ text. TellsRule found standing.now.done count rule.now text.items) }
+    ensures { IfOk result (λ text. TellsRule found.entry standing.now.done count rule.now text.items) }
 {
     let mut text = rule_line(alloc, found, standing.done as usize + 1, rule)?;
     let misfit = misfit_text(alloc, asked, found, rules, standing, count)?;

@@ -60,8 +60,8 @@ pub fn prune_file(
 fn prune_scripts(proved: Proved<'_>, text: &[u8], read: &Scripts) -> Result<Pruned, Memory>
     requires ready { IsReady proved.dev.now proved.table.now proved.list.now }
     requires reads { AreScriptsOf (text.now ∷ []) read.now }
-    ensures kept { IfOk result (λ p. IsPrunedFile proved.dev.now text.now p.text.items) }
-    ensures counted { IfOk result (λ p. p.unproved ≡ 0 → All (ProvesOne proved.dev.now proved.list.now) read.now) }
+    ensures kept { IfOk result (λ p. IsPrunedFile proved.entry.dev.now text.now p.text.items) }
+    ensures counted { IfOk result (λ p. p.unproved ≡ 0 → All (ProvesOne proved.entry.dev.now proved.entry.list.now) read.now) }
 {
     read.facts();
     let scripts = read.all();
@@ -93,7 +93,7 @@ fn unchanged(alloc: Global, text: &[u8], unproved: usize) -> Result<Pruned, Memo
 fn unproved_count(proved: Proved<'_>, scripts: &[RawScript]) -> Result<usize, Memory>
     requires ready { IsReady proved.dev.now proved.table.now proved.list.now }
     requires short { All IsShort scripts.now }
-    ensures { IfOk result (λ count. count ≡ 0 → All (ProvesOne proved.dev.now proved.list.now) scripts.now) }
+    ensures { IfOk result (λ count. count ≡ 0 → All (ProvesOne proved.entry.dev.now proved.entry.list.now) scripts.now) }
 {
     let mut count = 0usize;
     for script in scripts {

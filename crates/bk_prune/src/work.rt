@@ -37,7 +37,7 @@ pub(crate) struct Work {
 pub(crate) fn work_of(proved: Proved<'_>, script: &RawScript) -> Result<Option<Work>, Memory>
     requires ready { IsReady proved.dev.now proved.table.now proved.list.now }
     requires short { IsShort script.now }
-    ensures { IfOk result (λ found. IfSome found (IsWork proved.dev.now proved.list.now script.now)) }
+    ensures { IfOk result (λ found. IfSome found (IsWork proved.entry.dev.now proved.entry.list.now script.now)) }
 {
     let alloc = proved.alloc;
     let name = name_text(alloc, &script.name)?;
@@ -78,7 +78,7 @@ pub(crate) fn again(alloc: Global, sequent: &Sequent) -> Result<Sequent, Memory>
 pub(crate) fn proves(proved: Proved<'_>, script: &RawScript) -> Result<bool, Memory>
     requires ready { IsReady proved.dev.now proved.table.now proved.list.now }
     requires short { IsShort script.now }
-    ensures { IfOk result (λ does. does ≡ true → ProvesOne proved.dev.now proved.list.now script.now) }
+    ensures { IfOk result (λ does. does ≡ true → ProvesOne proved.entry.dev.now proved.entry.list.now script.now) }
 {
     let Some(work) = work_of(proved, script)? else {
         return Ok(false);
