@@ -9,7 +9,7 @@ pub struct Claims {
 }
 
 /// What each report claims.
-pub fn claims() -> Claims {
+pub fn claims_of_reports() -> Claims {
     Claims {
         proved: PROVED,
         trusted: TRUSTED,

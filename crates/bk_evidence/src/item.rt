@@ -147,7 +147,7 @@ fn asked_of(
     Ok(Asked {
         concern: origin.concern,
         words,
-        file: Text::from_bytes(Vec::from_slice(alloc, component.file.as_bytes())?),
+        file: Text::from_bytes(Vec::from_slice(alloc, component.file)?),
         line: place.line,
         column: place.column,
     })

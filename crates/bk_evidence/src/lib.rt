@@ -10,7 +10,7 @@ mod page;
 mod report;
 mod sums;
 
-pub use claim::{Claims, claims};
+pub use claim::{Claims, claims_of_reports};
 pub use html::html_page;
 pub use item::{Item, Proof, Script, items};
 pub use json::{items_json, json_text};

@@ -6,7 +6,7 @@ ghost use Rattle.bk_report.specs.Table as texts;
 ghost use Rattle.bk_evidence.specs.Items as meant;
 ghost use Rattle.bk_evidence.specs.Items.{count_items, count_of, sums_over};
 
-use crate::item::Item;
+use crate::item::{Item, is_settled};
 use bk_origins::Concern;
 use bk_status::State;
 
@@ -48,7 +48,7 @@ fn left_count(items: &[Item]) -> usize
 {
     items
         .iter()
-        .filter(|item| !(is_obvious(item.state) || is_proved(item.state)))
+        .filter(|item| is_left(item.state))
         .count()
 }
 
@@ -116,7 +116,7 @@ fn is_same(one: Concern, other: Concern) -> bool
 fn is_left(state: State) -> bool
     ensures { result ≡ not (rows.is_settled state) }
 {
-    !(is_obvious(state) || is_proved(state))
+    !is_settled(state)
 }
 
 fn is_obvious(state: State) -> bool

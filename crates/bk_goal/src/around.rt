@@ -118,7 +118,7 @@ fn text_of_place(alloc: Global, found: Found<'_>, at: usize) -> Result<Vec<u8>, 
 {
     let place = place_of(found.text, at);
     let mut text = Vec::from_slice(alloc, b" (")?;
-    text.extend_from_slice(found.file.as_bytes())?;
+    text.extend_from_slice(found.file)?;
     write_count(&mut text, b":", place.line)?;
     write_count(&mut text, b":", place.column)?;
     text.extend_from_slice(b")")?;

@@ -10,7 +10,8 @@ use bk_raw::RawScript;
 #[derive(Clone, Copy)]
 pub struct Found<'a> {
     pub script: &'a RawScript,
-    pub file: &'a str,
+    /// The name of the file.
+    pub file: &'a [u8],
     pub text: &'a [u8],
     pub tokens: &'a [Token],
 }

@@ -149,7 +149,9 @@ impl<'a> Site<'a> {
     }
 
     fn assertion_at(&self, index: usize) -> Option<usize> {
-        let component = self.component()?;
+        let Some(component) = self.component() else {
+            return None;
+        };
         let term = component.assertions().get(index)?;
         Some(term.at)
     }

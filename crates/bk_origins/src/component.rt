@@ -5,7 +5,8 @@ use bk_raw::{ClauseParts, ClauseWord, RawComponent, RawOperation, RawTerm};
 /// A component, and the text of its file.
 #[derive(Clone, Copy)]
 pub struct Component<'a> {
-    pub file: &'a str,
+    /// The name of the file.
+    pub file: &'a [u8],
     pub text: &'a [u8],
     pub raw: &'a RawComponent,
 }

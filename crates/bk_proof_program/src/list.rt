@@ -144,7 +144,7 @@ fn components_of<'a>(
             return Ok(components);
         };
         components.push(Component {
-            file: file.name(),
+            file: file.name.as_bytes(),
             text: &file.text,
             raw,
         })?;
@@ -187,9 +187,9 @@ fn script_of(alloc: Global, whole: &Whole, name: &[u8]) -> Result<Option<Script>
 }
 
 // `Tally.prf:1:7`.
-fn place_text(alloc: Global, file: &str, text: &[u8], at: usize) -> Result<Text, Memory> {
+fn place_text(alloc: Global, file: &[u8], text: &[u8], at: usize) -> Result<Text, Memory> {
     let place = place_of(text, at);
-    let mut out = Vec::from_slice(alloc, file.as_bytes())?;
+    let mut out = Vec::from_slice(alloc, file)?;
     out.extend_from_slice(b":")?;
     out.extend_from_slice(Buffer::new().format(place.line).as_bytes())?;
     out.extend_from_slice(b":")?;

@@ -33,7 +33,6 @@ use bk_verbs::Stop;
 use bk_verbs::files::{Project, fetch, names, read_project, refused};
 use bk_verbs::proof::obligations_of;
 use std::alloc::Global;
-use std::str;
 
 /// A file that a project names, and what it holds.
 #[derive(Drop)]
@@ -65,16 +64,6 @@ pub(crate) struct Whole {
     pub(crate) table: VarTable,
     pub(crate) files: ProjectTexts,
     pub(crate) proofs: Vec<ProofFile>,
-}
-
-impl NamedText {
-    /// Its name; none where that is no text.
-    pub(crate) fn name(&self) -> &str {
-        match str::from_utf8(self.name.as_bytes()) {
-            Ok(name) => name,
-            Err(_) => "",
-        }
-    }
 }
 
 /// Reads a project with its proof files, makes its obligations, and reads the texts of its files once more.
@@ -323,10 +312,10 @@ pub(crate) fn found<'a>(
 }
 
 // The name of the proof file with this number.
-fn file_name(whole: &Whole, number: usize) -> &str {
+fn file_name(whole: &Whole, number: usize) -> &[u8] {
     match whole.files.proofs.get(number) {
-        Some(file) => file.name(),
-        None => "",
+        Some(file) => file.name.as_bytes(),
+        None => &[],
     }
 }
 

@@ -15,7 +15,9 @@ ghost use Rattle.bk_proof_program.specs.Told.{WritesReport, IsReportOf};
 use crate::list::{all_items, status_of, strays};
 use crate::project::{NamedText, Whole, found, notes_of, obligation_named, read_whole};
 use crate::task::ReportForm;
-use bk_evidence::{File, Report, claims, html_page, inputs, json_text, report_text};
+use bk_evidence::{
+    File, Report, claims_of_reports, html_page, inputs, json_text, report_text,
+};
 use bk_goal::{Asked, Note, goal_text};
 use bk_io::{Memory, Shelf, Text};
 use bk_status::Row;
@@ -78,7 +80,7 @@ fn report_of(alloc: Global, project: &str, whole: &Whole, rows: &[Row]) -> Resul
     Ok(Report {
         version: VERSION,
         toolchain: TOOLCHAIN,
-        claims: claims(),
+        claims: claims_of_reports(),
         machine: machine_name(alloc, whole)?,
         inputs: inputs(alloc, &files)?,
         items: all_items(alloc, whole, rows, &shown)?,

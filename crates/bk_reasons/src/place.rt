@@ -72,6 +72,7 @@ fn say_parts(words: &mut Words<'_>, form: &Form, number: u32) -> Result<(), Memo
 }
 
 // Which parts of a formula have places.
+#[derive(Clone, Copy)]
 enum Parts {
     // None: a binder.
     Bound,
