@@ -1,6 +1,7 @@
 -- Proof files that have lost rules, and prove what they proved.
-use Rattle.std.specs.Prelude.{◌≡◌, ◌⊎◌, ◌<◌, ◌≤◌, ◌^◌, ℕ, List, [], ◌∷◌, length, map, All, Contains}
+use Rattle.std.specs.Prelude.{◌≡◌, ◌⊎◌, ◌↔◌, ◌<◌, ◌≤◌, ◌^◌, ℕ, List, [], ◌∷◌, length, map, find, All, Option, Some}
 use Rattle.std.specs.List.{AllZip}
+use Rattle.std.specs.Str.{bytes_eq}
 use Rattle.bk_form.specs.Table.{Table}
 use Rattle.bk_form.specs.Each.{Each}
 use Rattle.bk_dev.specs.Development.{Development}
@@ -45,20 +46,23 @@ IsPrunedFile dev text pruned =
     (pruned ≡ text) ⊎ ((before : List RawScript) × AreScriptsOf (text ∷ []) before × HasStatesOf dev before pruned)
 
 -- ---- scripts that prove something
--- the rules that the script stands for derive the sequent of an obligation of the list that has its name
+-- the first obligation of a list that has the name of the script
+abbrev pub obligation_for : List Obligation → RawScript → Option Obligation
+obligation_for list script = find (λ o. bytes_eq (name_text script.name) o.name) list
+
+-- the rules that the script stands for derive its sequent
 pub record ProvesOne (dev : Development) (list : List Obligation) (script : RawScript) : Type 0 where
   pub obligation : Obligation
-  pub listed : Contains list obligation
-  pub named : obligation.name ≡ name_text script.name
+  pub is_for : obligation_for list script ≡ Some obligation
   pub rules : List Rule
   pub table : Table
   pub grounded : IsGrounded (flattened dev) script rules table
   pub derives : Derives table rules (sequent_of obligation.sequent)
 
--- where none of a text's scripts is told to prove nothing, each proves an obligation of the list
+-- none of a text's scripts is told to prove nothing exactly where each proves its obligation of the list
 abbrev pub CountsUnproved : Development → List Obligation → List ℕ → ℕ → Type 0
 CountsUnproved dev list text unproved =
-    (before : List RawScript) → AreScriptsOf (text ∷ []) before → unproved ≡ 0 → All (ProvesOne dev list) before
+    (before : List RawScript) → AreScriptsOf (text ∷ []) before → (unproved ≡ 0) ↔ All (ProvesOne dev list) before
 
 -- ---- what a plan is made of
 -- the table of a development's obligations, and obligations on which rules are replayed
@@ -66,11 +70,10 @@ pub record IsReady (dev : Development) (table : Table) (list : List Obligation) 
   pub table_is : table ≡ (flattened dev).table
   pub replayable : Each (λ o. IsReplayable table o.1) (map named_sequent list)
 
--- the rules that the script stands for and the sequent of an obligation of the list that has its name, on which they are replayed
+-- the rules that the script stands for and the sequent of its obligation, on which they are replayed
 pub record IsWork (dev : Development) (list : List Obligation) (script : RawScript) (work : Work) : Type 0 where
   pub obligation : Obligation
-  pub listed : Contains list obligation
-  pub named : obligation.name ≡ name_text script.name
+  pub is_for : obligation_for list script ≡ Some obligation
   pub own : sequent_of work.sequent ≡ sequent_of obligation.sequent
   pub grounded : IsGrounded (flattened dev) script work.rules.items work.table
   pub replayable : IsReplayable work.table (sequent_of work.sequent)

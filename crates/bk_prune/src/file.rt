@@ -1,6 +1,6 @@
 //! Proof files without rules that nothing uses.
 
-ghost use Rattle.std.specs.Prelude.{◌≡◌, true, [], ◌∷◌, All, IfOk};
+ghost use Rattle.std.specs.Prelude.{◌≡◌, ◌↔◌, true, [], ◌∷◌, All, IfOk};
 ghost use Rattle.bk_p_proof.specs.Files.{AreScriptsOf, IsShort};
 ghost use Rattle.bk_prune.specs.Pruned.{IsPrunedFile, CountsUnproved, IsReady, ProvesOne};
 
@@ -61,7 +61,7 @@ fn prune_scripts(proved: Proved<'_>, text: &[u8], read: &Scripts) -> Result<Prun
     requires ready { IsReady proved.dev.now proved.table.now proved.list.now }
     requires reads { AreScriptsOf (text.now ∷ []) read.now }
     ensures kept { IfOk result (λ p. IsPrunedFile proved.entry.dev.now text.now p.text.items) }
-    ensures counted { IfOk result (λ p. p.unproved ≡ 0 → All (ProvesOne proved.entry.dev.now proved.entry.list.now) read.now) }
+    ensures counted { IfOk result (λ p. (p.unproved ≡ 0) ↔ All (ProvesOne proved.entry.dev.now proved.entry.list.now) read.now) }
 {
     read.facts();
     let scripts = read.all();
@@ -93,7 +93,7 @@ fn unchanged(alloc: Global, text: &[u8], unproved: usize) -> Result<Pruned, Memo
 fn unproved_count(proved: Proved<'_>, scripts: &[RawScript]) -> Result<usize, Memory>
     requires ready { IsReady proved.dev.now proved.table.now proved.list.now }
     requires short { All IsShort scripts.now }
-    ensures { IfOk result (λ count. count ≡ 0 → All (ProvesOne proved.entry.dev.now proved.entry.list.now) scripts.now) }
+    ensures { IfOk result (λ count. (count ≡ 0) ↔ All (ProvesOne proved.entry.dev.now proved.entry.list.now) scripts.now) }
 {
     let mut count = 0usize;
     for script in scripts {
@@ -104,7 +104,8 @@ fn unproved_count(proved: Proved<'_>, scripts: &[RawScript]) -> Result<usize, Me
 
 // A count, and one more where something does not prove.
 fn count_with(count: usize, proves: bool) -> usize
-    ensures { result ≡ 0 → (count ≡ 0) × (proves ≡ true) }
+    ensures none { result ≡ 0 → (count ≡ 0) × (proves ≡ true) }
+    ensures all { count ≡ 0 → proves ≡ true → result ≡ 0 }
 {
     if proves {
         count

@@ -1,9 +1,11 @@
 //! A script and the obligation that it is for.
 
-ghost use Rattle.std.specs.Prelude.{◌≡◌, true, Contains, IfOk, IfSome};
+ghost use Rattle.std.specs.Prelude.{◌≡◌, true, None, find, IfOk, IfSome, IfNone};
+ghost use Rattle.std.specs.Option.{option_copied};
+ghost use Rattle.std.specs.Str.{bytes_eq};
 ghost use Rattle.bk_seq.specs.Sequents.{sequent_of};
 ghost use Rattle.bk_p_proof.specs.Files.{IsShort};
-ghost use Rattle.bk_prune.specs.Pruned.{IsReady, IsWork, ProvesOne};
+ghost use Rattle.bk_prune.specs.Pruned.{IsReady, IsWork, ProvesOne, obligation_for};
 
 use bk_dev::Development;
 use bk_form::VarTable;
@@ -37,7 +39,8 @@ pub(crate) struct Work {
 pub(crate) fn work_of(proved: Proved<'_>, script: &RawScript) -> Result<Option<Work>, Memory>
     requires ready { IsReady proved.dev.now proved.table.now proved.list.now }
     requires short { IsShort script.now }
-    ensures { IfOk result (λ found. IfSome found (IsWork proved.entry.dev.now proved.entry.list.now script.now)) }
+    ensures some { IfOk result (λ found. IfSome found (IsWork proved.entry.dev.now proved.entry.list.now script.now)) }
+    ensures none { IfOk result (λ found. IfNone found (obligation_for proved.entry.list.now script.now ≡ None)) }
 {
     let alloc = proved.alloc;
     let name = name_text(alloc, &script.name)?;
@@ -55,16 +58,11 @@ pub(crate) fn work_of(proved: Proved<'_>, script: &RawScript) -> Result<Option<W
 }
 
 // The first obligation with this name.
-#[tactic(auto, using(crate::proofs::Ready::listed_at))]
 fn named<'a>(list: &'a [Obligation], name: &[u8]) -> Option<&'a Obligation>
-    ensures { IfSome result (λ o. Contains list.now o.now × (o.now.name ≡ name.now)) }
+    ensures { option_copied result ≡ find (λ o. bytes_eq name.now o.name) list.now }
 {
-    for obligation in list {
-        if obligation.name.as_bytes() == name {
-            return Some(obligation);
-        }
-    }
-    None
+    list.iter()
+        .find(|obligation| name == obligation.name.as_bytes())
 }
 
 /// The same sequent again.
@@ -78,7 +76,8 @@ pub(crate) fn again(alloc: Global, sequent: &Sequent) -> Result<Sequent, Memory>
 pub(crate) fn proves(proved: Proved<'_>, script: &RawScript) -> Result<bool, Memory>
     requires ready { IsReady proved.dev.now proved.table.now proved.list.now }
     requires short { IsShort script.now }
-    ensures { IfOk result (λ does. does ≡ true → ProvesOne proved.entry.dev.now proved.entry.list.now script.now) }
+    ensures yes { IfOk result (λ does. does ≡ true → ProvesOne proved.entry.dev.now proved.entry.list.now script.now) }
+    ensures no { IfOk result (λ does. ProvesOne proved.entry.dev.now proved.entry.list.now script.now → does ≡ true) }
 {
     let Some(work) = work_of(proved, script)? else {
         return Ok(false);
@@ -93,7 +92,8 @@ pub(crate) fn proves(proved: Proved<'_>, script: &RawScript) -> Result<bool, Mem
 }
 
 fn is_closed(verdict: Verdict) -> bool
-    ensures { result ≡ true → verdict ≡ Verdict.Closed }
+    ensures yes { result ≡ true → verdict ≡ Verdict.Closed }
+    ensures no { verdict ≡ Verdict.Closed → result ≡ true }
 {
     matches!(verdict, Verdict::Closed)
 }
