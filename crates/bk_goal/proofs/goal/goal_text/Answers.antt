@@ -1,13 +1,18 @@
 use Rattle.std.proofs.Common.{sym, subst}
-use Rattle.std.specs.Prelude.{IfOk}
+use Rattle.std.specs.Prelude.{Option, IfOk, IfSome}
 use Rattle.bk_dev.specs.Flattened.{flattened}
 use Rattle.bk_po.specs.Shown.{named_sequent}
 use Rattle.bk_status.specs.Replayable.{IsReplayable}
+use Rattle.bk_p_proof.specs.Files.{IsShort}
+use Rattle.bk_goal.specs.declared.asked.Found.{Found}
 use Rattle.bk_goal.specs.Shown.{ShowsGoal, ShowsAfter, ShowsAlone}
 use Rattle.bk_goal.proofs.goal.goal_text.Goals as goal
 
 pub behind_rules-requires-clause-replayable : goal.behind_rules-requires-clause-replayable
 behind_rules-requires-clause-replayable c = subst (IsReplayable c.args.asked.table.now) (sym c.in_ok-sequent.ensures) c.requires.replayable
+
+pub behind_rules-requires-clause-short : goal.behind_rules-requires-clause-short
+behind_rules-requires-clause-short c = subst (λ (o : Option Found). IfSome o (λ (f : Found). IsShort f.script.now)) c.in-Some.is c.requires.short
 
 pub returns-in-Some : goal.returns-in-Some
 returns-in-Some c =
