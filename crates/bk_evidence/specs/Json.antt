@@ -79,11 +79,17 @@ abbrev pub texts_data : List (List ℕ) → Data
 texts_data texts = array (items_of (map text_data texts))
 
 -- ---- the report
--- who wrote it and what it is of, the files, the obligations, the scripts for none, the sums, and what is claimed
+-- who wrote it, and what it is of
+abbrev pub about_members : Report → Members
+about_members report = put (codes "machine") (text_data report.machine)
+    (put (codes "toolchain") (string report.toolchain.now) (put (codes "version") (string report.version.now) no_members))
+
+-- then the files, the obligations, and the scripts for none
+abbrev pub listed_members : Report → Members
+listed_members report = put (codes "scripts_for_no_obligation") (texts_data report.strays.items)
+    (put (codes "obligations") (items_data false report.items.items) (put (codes "inputs") (inputs_data report.inputs.items) (about_members report)))
+
+-- all these, the sums, and what is claimed
 abbrev pub report_data : Report → Data
 report_data report = object (put (codes "claims") (claims_data report.claims) (put (codes "sums_by_kind") (kinds_data report.items.items)
-    (put (codes "sums") (sums_data (sums_over report.items.items))
-    (put (codes "scripts_for_no_obligation") (texts_data report.strays.items)
-    (put (codes "obligations") (items_data false report.items.items)
-    (put (codes "inputs") (inputs_data report.inputs.items) (put (codes "machine") (text_data report.machine)
-    (put (codes "toolchain") (string report.toolchain.now) (put (codes "version") (string report.version.now) no_members)))))))))
+    (put (codes "sums") (sums_data (sums_over report.items.items)) (listed_members report))))

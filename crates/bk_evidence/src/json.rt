@@ -1,11 +1,13 @@
 //! Reports as JSON (RFC 8259).
 
-ghost use Rattle.std.specs.Prelude.{◌≡◌, ◌≤◌, ◌++◌, Some, map, IfOk, OnOk};
+ghost use Rattle.std.specs.Prelude.{◌≡◌, ◌≤◌, ◌++◌, Some, codes, map, IfOk, OnOk};
 ghost use Rattle.serde_json.specs.Data.{depth, string, put as with_member};
 ghost use Rattle.serde_json.specs.Read.{read, max_depth};
 ghost use Rattle.serde_json.specs.View.{view, members_view};
+ghost use Rattle.bk_report.specs.Table.{state_text};
 ghost use Rattle.bk_evidence.specs.Json.{text_data, count_data, script_data, place_members, item_data, asked_data, items_data};
-ghost use Rattle.bk_evidence.specs.Json.{input_data, inputs_data, texts_data, sums_data, kinds_data, claims_data, report_data};
+ghost use Rattle.bk_evidence.specs.Json.{input_data, inputs_data, texts_data, sums_data, kinds_data, claims_data};
+ghost use Rattle.bk_evidence.specs.Json.{about_members, listed_members, report_data};
 
 use crate::claim::Claims;
 use crate::item::{Item, Script, is_left_out, write_state};
@@ -13,6 +15,7 @@ use crate::report::{Input, Report};
 use crate::sums::{Sums, sums_of, sums_with};
 use bk_io::{Memory, Text};
 use bk_origins::Concern;
+use bk_status::State;
 use serde_json::{Map, Value, put};
 use std::alloc::Global;
 
@@ -46,23 +49,38 @@ fn value_text(alloc: Global, value: &Value) -> Result<Vec<u8>, Memory>
 fn report_value(alloc: Global, report: &Report) -> Result<Value, Memory>
     ensures { IfOk result (λ v. view v ≡ report_data report.now) }
 {
-    let inputs = inputs_value(alloc, &report.inputs)?;
-    let items = items_value(alloc, &report.items, false)?;
-    let strays = texts_value(alloc, &report.strays)?;
-    let sums = sums_value(alloc, sums_of(&report.items))?;
+    let mut map = listed_map(alloc, report)?;
+    put_sums(alloc, &mut map, "sums", sums_of(&report.items))?;
     let kinds = kinds_value(alloc, &report.items)?;
+    put(&mut map, alloc, "sums_by_kind", kinds)?;
     let claims = claims_value(alloc, report.claims)?;
+    put(&mut map, alloc, "claims", claims)?;
+    Ok(Value::Object(map))
+}
+
+// What the report is of, the files, the obligations, and the scripts for none.
+fn listed_map(alloc: Global, report: &Report) -> Result<Map<String, Value>, Memory>
+    ensures { IfOk result (λ map. members_view map.entries ≡ listed_members report.now) }
+{
+    let mut map = about_map(alloc, report)?;
+    let inputs = inputs_value(alloc, &report.inputs)?;
+    put(&mut map, alloc, "inputs", inputs)?;
+    let items = items_value(alloc, &report.items, false)?;
+    put(&mut map, alloc, "obligations", items)?;
+    let strays = texts_value(alloc, &report.strays)?;
+    put(&mut map, alloc, "scripts_for_no_obligation", strays)?;
+    Ok(map)
+}
+
+// Who wrote the report, and what it is of.
+fn about_map(alloc: Global, report: &Report) -> Result<Map<String, Value>, Memory>
+    ensures { IfOk result (λ map. members_view map.entries ≡ about_members report.now) }
+{
     let mut map = Map::new(alloc);
     put_str(alloc, &mut map, "version", report.version)?;
     put_str(alloc, &mut map, "toolchain", report.toolchain)?;
     put_text(alloc, &mut map, "machine", &report.machine)?;
-    put(&mut map, alloc, "inputs", inputs)?;
-    put(&mut map, alloc, "obligations", items)?;
-    put(&mut map, alloc, "scripts_for_no_obligation", strays)?;
-    put(&mut map, alloc, "sums", sums)?;
-    put(&mut map, alloc, "sums_by_kind", kinds)?;
-    put(&mut map, alloc, "claims", claims)?;
-    Ok(Value::Object(map))
+    Ok(map)
 }
 
 #[tactic(auto, using(crate::proofs::Views::view_list))]
@@ -118,15 +136,11 @@ fn push_if_asked(
 fn item_value(alloc: Global, item: &Item) -> Result<Value, Memory>
     ensures { IfOk result (λ v. view v ≡ item_data item.now) }
 {
-    let script = script_value(alloc, &item.script)?;
-    let mut state = Vec::new(alloc);
-    write_state(&mut state, item.state)?;
-    let state = text_value(alloc, &state)?;
     let mut map = place_map(alloc, item)?;
     put_text(alloc, &mut map, "name", &item.name)?;
     put_text(alloc, &mut map, "asks", &item.words)?;
-    put(&mut map, alloc, "state", state)?;
-    put(&mut map, alloc, "script", script)?;
+    put_state(alloc, &mut map, item.state)?;
+    put_script(alloc, &mut map, &item.script)?;
     Ok(Value::Object(map))
 }
 
@@ -231,6 +245,30 @@ fn claims_value(alloc: Global, claims: Claims) -> Result<Value, Memory>
 }
 
 // ---- members
+fn put_state(alloc: Global, map: &mut Map<String, Value>, state: State) -> Result<(), Memory>
+    ensures { OnOk result (members_view map.new.entries ≡
+        with_member (codes "state") (text_data (state_text state)) (members_view map.old.entries)) }
+{
+    let mut text = Vec::new(alloc);
+    write_state(&mut text, state)?;
+    let value = text_value(alloc, &text)?;
+    put(map, alloc, "state", value)?;
+    Ok(())
+}
+
+fn put_script(
+    alloc: Global,
+    map: &mut Map<String, Value>,
+    script: &Option<Script>,
+) -> Result<(), Memory>
+    ensures { OnOk result (members_view map.new.entries ≡
+        with_member (codes "script") (script_data script.now) (members_view map.old.entries)) }
+{
+    let value = script_value(alloc, script)?;
+    put(map, alloc, "script", value)?;
+    Ok(())
+}
+
 fn put_sums(
     alloc: Global,
     map: &mut Map<String, Value>,
