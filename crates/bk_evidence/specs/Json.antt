@@ -87,7 +87,8 @@ about_members report = put (codes "machine") (text_data report.machine)
 -- then the files, the obligations, and the scripts for none
 abbrev pub listed_members : Report → Members
 listed_members report = put (codes "scripts_for_no_obligation") (texts_data report.strays.items)
-    (put (codes "obligations") (items_data false report.items.items) (put (codes "inputs") (inputs_data report.inputs.items) (about_members report)))
+    (put (codes "obligations") (items_data false report.items.items)
+    (put (codes "inputs") (inputs_data report.inputs.items) (about_members report)))
 
 -- all these, the sums, and what is claimed
 abbrev pub report_data : Report → Data
