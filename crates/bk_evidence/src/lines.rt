@@ -49,7 +49,8 @@ fn write_item(text: &mut Vec<u8>, item: &Item) -> Result<(), AllocError>
 {
     write_question(text, item)?;
     write_place(text, item)?;
-    write_answer(text, item)
+    write_answer(text, item)?;
+    Ok(())
 }
 
 // `T.inc.1  invariant conjunct 1 is kept by inc  `.
@@ -59,7 +60,8 @@ fn write_question(text: &mut Vec<u8>, item: &Item) -> Result<(), AllocError>
     text.extend_from_slice(item.name.as_bytes())?;
     text.extend_from_slice(b"  ")?;
     text.extend_from_slice(item.words.as_bytes())?;
-    text.extend_from_slice(b"  ")
+    text.extend_from_slice(b"  ")?;
+    Ok(())
 }
 
 // `Tally.mch:3:12`.
@@ -68,7 +70,8 @@ fn write_place(text: &mut Vec<u8>, item: &Item) -> Result<(), AllocError>
 {
     text.extend_from_slice(item.file.as_bytes())?;
     write_count(text, b":", item.line)?;
-    write_count(text, b":", item.column)
+    write_count(text, b":", item.column)?;
+    Ok(())
 }
 
 // `  proved, rules 4 (T.prf:1:7)`.
@@ -78,7 +81,8 @@ fn write_answer(text: &mut Vec<u8>, item: &Item) -> Result<(), AllocError>
     text.extend_from_slice(b"  ")?;
     write_state(text, item.state)?;
     write_script(text, &item.script)?;
-    text.extend_from_slice(b"\n")
+    text.extend_from_slice(b"\n")?;
+    Ok(())
 }
 
 fn write_script(text: &mut Vec<u8>, script: &Option<Script>) -> Result<(), AllocError>
@@ -97,7 +101,8 @@ fn write_rules(text: &mut Vec<u8>, script: &Script) -> Result<(), AllocError>
     write_count(text, b", rules ", script.rules)?;
     text.extend_from_slice(b" (")?;
     text.extend_from_slice(script.place.as_bytes())?;
-    text.extend_from_slice(b")")
+    text.extend_from_slice(b")")?;
+    Ok(())
 }
 
 // `12 obligations: 7 obvious, 5 proved, 0 open`.
@@ -108,7 +113,8 @@ fn write_sums(text: &mut Vec<u8>, sums: Sums) -> Result<(), AllocError>
     write_count(text, b" obligations: ", sums.obvious)?;
     write_count(text, b" obvious, ", sums.proved)?;
     write_count(text, b" proved, ", sums.left)?;
-    text.extend_from_slice(b" open\n")
+    text.extend_from_slice(b" open\n")?;
+    Ok(())
 }
 
 // The sums of each kind.
@@ -120,7 +126,8 @@ fn write_concerns(text: &mut Vec<u8>, items: &[Item]) -> Result<(), AllocError>
     write_concern(text, items, Concern::Assertion)?;
     write_concern(text, items, Concern::Values)?;
     write_concern(text, items, Concern::Definedness)?;
-    write_concern(text, items, Concern::Other)
+    write_concern(text, items, Concern::Other)?;
+    Ok(())
 }
 
 fn write_concern(text: &mut Vec<u8>, items: &[Item], concern: Concern) -> Result<(), AllocError>
@@ -137,7 +144,8 @@ fn write_some(text: &mut Vec<u8>, concern: Concern, sums: Sums) -> Result<(), Al
         return Ok(());
     }
     write_name(text, concern)?;
-    write_sums(text, sums)
+    write_sums(text, sums)?;
+    Ok(())
 }
 
 // `operations: `.
@@ -145,7 +153,8 @@ fn write_name(text: &mut Vec<u8>, concern: Concern) -> Result<(), AllocError>
     ensures { OnOk result (text.new.items ≡ text.old.items ++ (texts.concern_text concern ++ codes ": ")) }
 {
     text.extend_from_slice(concern_text(concern).as_bytes())?;
-    text.extend_from_slice(b": ")
+    text.extend_from_slice(b": ")?;
+    Ok(())
 }
 
 /// What a kind of obligations is called.
@@ -179,7 +188,8 @@ fn write_input(text: &mut Vec<u8>, input: &Input) -> Result<(), AllocError>
     write_count(text, b" ", input.length)?;
     text.extend_from_slice(b" ")?;
     text.extend_from_slice(input.digest.as_str().as_bytes())?;
-    text.extend_from_slice(b"\n")
+    text.extend_from_slice(b"\n")?;
+    Ok(())
 }
 
 // What is proved, trusted and not claimed.
@@ -189,12 +199,14 @@ fn write_claims(text: &mut Vec<u8>, claims: Claims) -> Result<(), AllocError>
     write_claim(text, b"proved: ", claims.proved)?;
     write_claim(text, b"\ntrusted: ", claims.trusted)?;
     write_claim(text, b"\nnot claimed: ", claims.not_claimed)?;
-    text.extend_from_slice(b"\n")
+    text.extend_from_slice(b"\n")?;
+    Ok(())
 }
 
 fn write_claim(text: &mut Vec<u8>, name: &[u8], claim: &str) -> Result<(), AllocError>
     ensures { OnOk result (text.new.items ≡ text.old.items ++ (name.now ++ claim.now)) }
 {
     text.extend_from_slice(name)?;
-    text.extend_from_slice(claim.as_bytes())
+    text.extend_from_slice(claim.as_bytes())?;
+    Ok(())
 }
