@@ -76,8 +76,8 @@ pub(crate) fn again(alloc: Global, sequent: &Sequent) -> Result<Sequent, Memory>
 pub(crate) fn proves(proved: Proved<'_>, script: &RawScript) -> Result<bool, Memory>
     requires ready { IsReady proved.dev.now proved.table.now proved.list.now }
     requires short { IsShort script.now }
-    ensures yes { IfOk result (λ does. does ≡ true → ProvesOne proved.entry.dev.now proved.entry.list.now script.now) }
-    ensures no { IfOk result (λ does. ProvesOne proved.entry.dev.now proved.entry.list.now script.now → does ≡ true) }
+    ensures right { IfOk result (λ does. does ≡ true → ProvesOne proved.entry.dev.now proved.entry.list.now script.now) }
+    ensures whole { IfOk result (λ does. ProvesOne proved.entry.dev.now proved.entry.list.now script.now → does ≡ true) }
 {
     let Some(work) = work_of(proved, script)? else {
         return Ok(false);
@@ -92,8 +92,8 @@ pub(crate) fn proves(proved: Proved<'_>, script: &RawScript) -> Result<bool, Mem
 }
 
 fn is_closed(verdict: Verdict) -> bool
-    ensures yes { result ≡ true → verdict ≡ Verdict.Closed }
-    ensures no { verdict ≡ Verdict.Closed → result ≡ true }
+    ensures right { result ≡ true → verdict ≡ Verdict.Closed }
+    ensures whole { verdict ≡ Verdict.Closed → result ≡ true }
 {
     matches!(verdict, Verdict::Closed)
 }

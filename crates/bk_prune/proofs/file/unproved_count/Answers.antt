@@ -19,10 +19,10 @@ loop-script-preserved c =
     record {
       none = λ counted.
           let both = c.count_with.ensures.none counted in
-          all_more proves c.args.scripts.now l.script-index c.script-item.result c.loop-script-test.true c.script-item.is (l.invariant.none both.0) (c.in_ok-proves.ensures.yes both.1);
+          all_more proves c.args.scripts.now l.script-index c.script-item.result c.loop-script-test.true c.script-item.is (l.invariant.none both.0) (c.in_ok-proves.ensures.right both.1);
       all = λ each.
           let here = subst proves (sym c.script-item.is) (each l.script-index c.script-item.result c.loop-script-test.true) in
-          c.count_with.ensures.all (l.invariant.all each) (c.in_ok-proves.ensures.no here);
+          c.count_with.ensures.all (l.invariant.all each) (c.in_ok-proves.ensures.whole here);
     }
 
 pub returns : goal.returns

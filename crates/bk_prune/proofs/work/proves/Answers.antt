@@ -10,8 +10,8 @@ replay-requires c =
     let work = some_so (IsWork c.args.proved.dev.now c.args.proved.list.now c.args.script.now) c.in_ok-work.field-0 c.in-Some.work c.in-Some.is c.in_ok-work.ensures.some in
     record { types = work.replayable.types; within = work.replayable.within; countable = subst (λ rs. length rs < 2 ^ 32) (sym c.deref.ensures.value) work.countable }
 
-pub returns-in_default-clause-no : goal.returns-in_default-clause-no
-returns-in_default-clause-no c = λ proved.
+pub returns-in_default-clause-whole : goal.returns-in_default-clause-whole
+returns-in_default-clause-whole c = λ proved.
     let none = none_so (obligation_for c.args.proved.list.now c.args.script.now ≡ None) c.in_ok-work.field-0 c.in_default.is c.in_ok-work.ensures.none in
     absurd (proves_none c.args.proved.dev.now c.args.proved.list.now c.args.script.now none proved)
 
@@ -25,6 +25,6 @@ returns c =
     let verdict = c.in_ok-verdict.verdict in
     let told = subst (λ rs. IsVerdict work.table rs (sequent_of work.sequent) verdict) c.deref.ensures.value c.in_ok-verdict.ensures.verdict in
     record {
-      yes = λ yes. closed_proves dev list script work verdict found told (c.is_closed.ensures.yes yes);
-      no = λ proved. c.is_closed.ensures.no (closed_where_proved dev list script work verdict found told proved);
+      right = λ yes. closed_proves dev list script work verdict found told (c.is_closed.ensures.right yes);
+      whole = λ proved. c.is_closed.ensures.whole (closed_where_proved dev list script work verdict found told proved);
     }
