@@ -9,6 +9,7 @@ use Rattle.bk_verbs.specs.declared.status.Status.{Status}
 use Rattle.bk_verbs.specs.declared.status.Status.TheVariants.{Done, Usage, Missing, Refused, Unproved, Incomplete, BadCalls, Trapped, OutOfFuel, BadImage, ReadFault, WriteFault, Memory}
 use Rattle.bk_proof_program.specs.Answers.{IsEnd}
 use Rattle.bk_proof_program.specs.Said.{AnswersTask, IsWritten, TellsStop}
+use Rattle.bk_proof_program.specs.declared.help.TheConstants.{USAGE}
 use Rattle.bk_proof_program.specs.declared.task.Task.{Task}
 
 -- an end is no status with which what is written may be cut short
@@ -67,6 +68,6 @@ answer_written files task text old new status result end a (inr h) = inl (record
   written = h.1;
 })
 
-pub usage_written : (files : Files) (text : List ℕ) (old new : Option (List ℕ)) (result : Status) → IsEnd result → IsCutShort result ⊎ ((result ≡ Usage) × (new ≡ written_with old text)) → IsWritten files old new result
-usage_written files text old new result end (inl h) = absurd (not_both result end h)
-usage_written files text old new result end (inr h) = inr (inr h.0)
+pub usage_written : (files : Files) (text : List ℕ) (old new : Option (List ℕ)) (result : Status) → IsEnd result → text ≡ USAGE.now → IsCutShort result ⊎ ((result ≡ Usage) × (new ≡ written_with old text)) → IsWritten files old new result
+usage_written files text old new result end e (inl h) = absurd (not_both result end h)
+usage_written files text old new result end e (inr h) = inr (inr (h.0, h.1 ∙ ap (written_with old) e))

@@ -14,6 +14,7 @@ use Rattle.bk_proof_program.specs.Goals.{IsGoalOf}
 use Rattle.bk_proof_program.specs.Prunes.{IsPruneOf}
 use Rattle.bk_proof_program.specs.Settled.{HasStatus}
 use Rattle.bk_proof_program.specs.Told.{IsListOf, IsReportOf}
+use Rattle.bk_proof_program.specs.declared.help.TheConstants.{USAGE}
 use Rattle.bk_proof_program.specs.declared.program.Answer.{Answer}
 use Rattle.bk_proof_program.specs.declared.program.Answer.TheVariants.{Whole, Explained}
 use Rattle.bk_proof_program.specs.declared.task.Task.{Task}
@@ -53,4 +54,5 @@ pub record TellsAnswer (files : Files) (old new : Option (List ℕ)) (status : S
 
 -- the answer to some task, the line of a stop, or the line of wrong words
 abbrev pub IsWritten : Files → (old new : Option (List ℕ)) → Status → Type 0
-IsWritten files old new status = TellsAnswer files old new status ⊎ (((stop : Stop) × TellsStop stop old new status) ⊎ (status ≡ Usage))
+IsWritten files old new status = TellsAnswer files old new status
+    ⊎ (((stop : Stop) × TellsStop stop old new status) ⊎ ((status ≡ Usage) × (new ≡ written_with old USAGE.now)))
