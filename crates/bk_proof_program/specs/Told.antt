@@ -13,8 +13,8 @@ use Rattle.bk_evidence.specs.declared.item.Item.{Item}
 use Rattle.bk_evidence.specs.declared.report.Report.{Report}
 use Rattle.bk_proof_program.specs.Texts.{AreTextsOf, files_read}
 use Rattle.bk_proof_program.specs.declared.project.ProjectTexts.{ProjectTexts}
-use Rattle.bk_proof_program.specs.declared.task.ReportForm.{ReportForm}
-use Rattle.bk_proof_program.specs.declared.task.ReportForm.TheVariants.{Text, Json, Html}
+use Rattle.bk_proof_words.specs.declared.task.ReportForm.{ReportForm}
+use Rattle.bk_proof_words.specs.declared.task.ReportForm.TheVariants.{Text, Json, Html}
 
 -- ---- texts
 -- as JSON a line that reads back as the obligations, else their lines, and behind these those of scripts for none

@@ -1,10 +1,11 @@
 //! `explain`.
 
-ghost use Rattle.std.specs.Prelude.{◌≡◌, ◌≢◌, ◌≤◌, false, Some, IfOk, IfErr, IfSome};
+ghost use Rattle.std.specs.Prelude.{◌≡◌, ◌≢◌, ◌≤◌, Some, MatchBool, IfOk, IfErr, IfSome};
 ghost use Rattle.bk_io.specs.Counts.{HasCause};
 ghost use Rattle.bk_io.specs.Files.{Files};
 ghost use Rattle.bk_cli.specs.Asked.{task_of, HasSmallNumbers};
 ghost use Rattle.bk_verbs.specs.Causes.{IsOfReading};
+ghost use Rattle.bk_verbs.specs.Stops.{IsOutside};
 ghost use Rattle.bk_verbs.specs.declared.stop.Stop.TheVariants.{ReadFault};
 ghost use Rattle.bk_proof_program.specs.Explained.{task_asked, IsExplained};
 
@@ -31,6 +32,7 @@ pub(crate) fn explain_answer<H: Shelf>(
     asked: Question<'_>,
     shelf: &mut H,
 ) -> Result<Option<(Stop, Vec<u8>)>, Stop>
+    ensures outside { IfErr result IsOutside }
     ensures reading { IfErr result IsOfReading }
     ensures failed { HasCause ReadFault (H.faults shelf.old) (H.faults shelf.new) result }
     ensures stops { IfOk result (λ found. IfSome found (λ p. IsOfReading p.0 × (p.0 ≢ ReadFault))) }
@@ -50,7 +52,7 @@ pub(crate) fn explain_answer<H: Shelf>(
 
 // Whether a file was there and could not be read.
 fn is_of_reading(stop: &Stop) -> bool
-    ensures { result ≡ false → stop.now ≢ ReadFault }
+    ensures { MatchBool result (stop.now ≡ ReadFault) (stop.now ≢ ReadFault) }
 {
     matches!(stop, Stop::ReadFault)
 }

@@ -10,6 +10,5 @@ mod program;
 mod project;
 mod prune;
 mod report;
-mod task;
 
 pub use program::{bkproof, exit_code};

@@ -1,10 +1,12 @@
 //! `list`.
 
-ghost use Rattle.std.specs.Prelude.{◌≡◌, List, Some, true, false, map, IfOk, IfErr};
+ghost use Rattle.std.specs.Prelude.{◌≡◌, ◌⊎◌, List, Some, true, false, map, IfOk, IfErr};
 ghost use Rattle.bk_io.specs.Counts.{HasCause};
 ghost use Rattle.bk_io.specs.Files.{Files};
 ghost use Rattle.bk_status.specs.Rows.{first_open};
+ghost use Rattle.bk_cli.specs.Tasks.{status_task};
 ghost use Rattle.bk_verbs.specs.Causes.{IsOfReading};
+ghost use Rattle.bk_verbs.specs.Stops.{IsOutside, StopsTask};
 ghost use Rattle.bk_verbs.specs.declared.stop.Stop.TheVariants.{ReadFault};
 ghost use Rattle.bk_proof_program.specs.Answers.{IsEnd};
 ghost use Rattle.bk_evidence.specs.Items.{row_of};
@@ -37,6 +39,8 @@ pub(crate) fn list_answer<H: Shelf>(
     ensures told { IfOk result (λ a. (files : Files) → H.files shelf.old ≡ Some files →
         IsListOf files project.now as_json is_open_only a.0.items) }
     ensures ends { IfOk result (λ a. IsEnd a.1) }
+    ensures cause { IfErr result (λ stop. (files : Files) → H.files shelf.old ≡ Some files →
+        IsOutside stop ⊎ StopsTask files (status_task project.now) stop) }
     ensures reading { IfErr result IsOfReading }
     ensures failed { HasCause ReadFault (H.faults shelf.old) (H.faults shelf.new) result }
 {

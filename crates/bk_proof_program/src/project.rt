@@ -1,6 +1,6 @@
 //! A project with the texts of its files.
 
-ghost use Rattle.std.specs.Prelude.{◌≡◌, true, Some, All, map, option_map, find, IfOk, IfErr, IfSome};
+ghost use Rattle.std.specs.Prelude.{◌≡◌, ◌⊎◌, true, Some, All, map, option_map, find, IfOk, IfErr, IfSome};
 ghost use Rattle.std.specs.Option.{option_copied};
 ghost use Rattle.std.specs.Str.{bytes_eq};
 ghost use Rattle.bk_io.specs.Counts.{HasCause};
@@ -12,7 +12,9 @@ ghost use Rattle.bk_po.specs.Obligations.{numbered_obligations};
 ghost use Rattle.bk_po.specs.Shown.{named_sequent};
 ghost use Rattle.bk_status.specs.States as meant;
 ghost use Rattle.bk_verbs.specs.Causes.{IsOfChecks, IsOfReading};
-ghost use Rattle.bk_verbs.specs.Project.{IsTold, ReadsProject, files_of};
+ghost use Rattle.bk_cli.specs.Tasks.{status_task};
+ghost use Rattle.bk_verbs.specs.Project.{AreTold, IsTold, ReadsProject, files_of};
+ghost use Rattle.bk_verbs.specs.Stops.{IsOutside, StopsAtFile, StopsAtFiles, StopsAtProject, StopsPastLimits, StopsTask};
 ghost use Rattle.bk_verbs.specs.declared.stop.Stop.TheVariants.{ReadFault};
 ghost use Rattle.bk_prune.specs.Pruned.{IsReady};
 ghost use Rattle.bk_proof_program.specs.Texts.{AreTextsOf, IsToldFile};
@@ -68,6 +70,8 @@ pub(crate) struct Whole {
 
 /// Reads a project with its proof files, makes its obligations, and reads the texts of its files once more.
 pub(crate) fn read_whole<H: Shelf>(alloc: Global, name: &str, shelf: &mut H) -> Result<Whole, Stop>
+    ensures cause { IfErr result (λ stop. (files : Files) → H.files shelf.old ≡ Some files →
+        IsOutside stop ⊎ StopsTask files (status_task name.now) stop) }
     ensures reading { IfErr result IsOfReading }
     ensures failed { HasCause ReadFault (H.faults shelf.old) (H.faults shelf.new) result }
     ensures told { IfOk result (λ w. (files : Files) → H.files shelf.old ≡ Some files →
@@ -95,6 +99,7 @@ fn obligations_with(
     name: &str,
     dev: &Development,
 ) -> Result<(Vec<Obligation>, VarTable), Stop>
+    ensures cause { IfErr result (λ stop. IsOutside stop ⊎ StopsPastLimits name.now dev.now stop) }
     ensures checks { IfErr result IsOfChecks }
     ensures listed { IfOk result (λ p. map named_sequent p.0.items ≡ numbered_obligations dev.now) }
     ensures ready { IfOk result (λ p. IsReady dev.now p.1 p.0.items) }
@@ -107,6 +112,8 @@ fn obligations_with(
 
 // The project file, then those that it names.
 fn read_again<H: Shelf>(alloc: Global, name: &str, shelf: &mut H) -> Result<ProjectTexts, Stop>
+    ensures cause { IfErr result (λ stop. (files : Files) → H.files shelf.old ≡ Some files →
+        IsOutside stop ⊎ StopsAtProject true files name.now stop) }
     ensures reading { IfErr result IsOfReading }
     ensures failed { HasCause ReadFault (H.faults shelf.old) (H.faults shelf.new) result }
     ensures told { IfOk result (λ texts. (files : Files) → H.files shelf.old ≡ Some files → AreTextsOf files name.now texts) }
@@ -124,6 +131,8 @@ fn read_again<H: Shelf>(alloc: Global, name: &str, shelf: &mut H) -> Result<Proj
 
 // The lines of a project file.
 fn lines_of(alloc: Global, name: &str, text: &[u8]) -> Result<Vec<ProjectLine>, Stop>
+    ensures cause { IfErr result (λ stop. (files : Files) → IsTold files name.now text.now →
+        IsOutside stop ⊎ StopsAtProject true files name.now stop) }
     ensures checks { IfErr result IsOfChecks }
     ensures value { IfOk result (λ lines. AreLinesOf text.now lines.items) }
 {
@@ -141,6 +150,10 @@ fn fetch_named<H: Shelf>(
     shelf: &mut H,
 ) -> Result<Vec<NamedText>, Stop>
     requires { All (λ line. IsFileName line.name) lines.now }
+    ensures cause { IfErr result (λ stop. (files : Files) → H.files shelf.old ≡ Some files →
+        IsOutside stop ⊎ StopsAtFiles files (files_of of_proofs lines.now) stop) }
+    ensures texts { IfOk result (λ found. (files : Files) → H.files shelf.old ≡ Some files →
+        AreTold files (files_of of_proofs lines.now) (map (λ f. f.text.items) found.items)) }
     ensures reading { IfErr result IsOfReading }
     ensures failed { HasCause ReadFault (H.faults shelf.old) (H.faults shelf.new) result }
     ensures files { H.files shelf.new ≡ H.files shelf.old }
@@ -158,6 +171,10 @@ fn fetch_each<H: Shelf>(
     names: &[&str],
     shelf: &mut H,
 ) -> Result<Vec<NamedText>, Stop>
+    ensures cause { IfErr result (λ stop. (files : Files) → H.files shelf.old ≡ Some files →
+        IsOutside stop ⊎ StopsAtFiles files (map (λ name. name.now) names.now) stop) }
+    ensures texts { IfOk result (λ found. (files : Files) → H.files shelf.old ≡ Some files →
+        AreTold files (map (λ name. name.now) names.now) (map (λ f. f.text.items) found.items)) }
     ensures reading { IfErr result IsOfReading }
     ensures failed { HasCause ReadFault (H.faults shelf.old) (H.faults shelf.new) result }
     ensures files { H.files shelf.new ≡ H.files shelf.old }
@@ -172,6 +189,8 @@ fn fetch_each<H: Shelf>(
 }
 
 fn fetch_one<H: Shelf>(alloc: Global, name: &str, shelf: &mut H) -> Result<NamedText, Stop>
+    ensures cause { IfErr result (λ stop. (files : Files) → H.files shelf.old ≡ Some files →
+        IsOutside stop ⊎ StopsAtFile files name.now stop) }
     ensures reading { IfErr result IsOfReading }
     ensures failed { HasCause ReadFault (H.faults shelf.old) (H.faults shelf.new) result }
     ensures files { H.files shelf.new ≡ H.files shelf.old }

@@ -1,11 +1,13 @@
 //! `prune`.
 
-ghost use Rattle.std.specs.Prelude.{◌≡◌, Some, find, IfOk, IfErr};
+ghost use Rattle.std.specs.Prelude.{◌≡◌, ◌⊎◌, Some, find, IfOk, IfErr};
 ghost use Rattle.std.specs.Option.{option_copied};
 ghost use Rattle.std.specs.Str.{bytes_eq};
 ghost use Rattle.bk_io.specs.Counts.{HasCause};
 ghost use Rattle.bk_io.specs.Files.{Files};
+ghost use Rattle.bk_cli.specs.Tasks.{status_task};
 ghost use Rattle.bk_verbs.specs.Causes.{IsOfReading};
+ghost use Rattle.bk_verbs.specs.Stops.{IsOutside, StopsTask};
 ghost use Rattle.bk_verbs.specs.declared.stop.Stop.TheVariants.{ReadFault};
 ghost use Rattle.bk_proof_program.specs.Answers.{IsEnd};
 ghost use Rattle.bk_proof_program.specs.Prunes as meant;
@@ -28,6 +30,8 @@ pub(crate) fn prune_answer<H: Shelf>(
     ensures told { IfOk result (λ a. (files : Files) → H.files shelf.old ≡ Some files →
         IsPruneOf files project.now file.now a.0.items a.1) }
     ensures ends { IfOk result (λ a. IsEnd a.1) }
+    ensures cause { IfErr result (λ stop. (files : Files) → H.files shelf.old ≡ Some files →
+        IsOutside stop ⊎ StopsTask files (status_task project.now) stop) }
     ensures reading { IfErr result IsOfReading }
     ensures failed { HasCause ReadFault (H.faults shelf.old) (H.faults shelf.new) result }
 {

@@ -1,9 +1,11 @@
 //! `report`.
 
-ghost use Rattle.std.specs.Prelude.{◌≡◌, ◌++◌, Some, map, IfOk, IfErr, OnOk};
+ghost use Rattle.std.specs.Prelude.{◌≡◌, ◌⊎◌, ◌++◌, Some, map, IfOk, IfErr, OnOk};
 ghost use Rattle.bk_io.specs.Counts.{HasCause};
 ghost use Rattle.bk_io.specs.Files.{Files};
+ghost use Rattle.bk_cli.specs.Tasks.{status_task};
 ghost use Rattle.bk_verbs.specs.Causes.{IsOfReading};
+ghost use Rattle.bk_verbs.specs.Stops.{IsOutside, StopsTask};
 ghost use Rattle.bk_verbs.specs.declared.stop.Stop.TheVariants.{ReadFault};
 ghost use Rattle.bk_proof_program.specs.Answers.{IsEnd};
 ghost use Rattle.bk_prune.specs.Pruned.{IsReady};
@@ -14,12 +16,12 @@ ghost use Rattle.bk_proof_program.specs.Told.{WritesReport, IsReportOf};
 
 use crate::list::{all_items, status_of, strays};
 use crate::project::{NamedText, Whole, found, notes_of, obligation_named, read_whole};
-use crate::task::ReportForm;
 use bk_evidence::{
     File, Report, claims_of_reports, html_page, inputs, json_text, report_text,
 };
 use bk_goal::{Asked, Note, goal_text};
 use bk_io::{Memory, Shelf, Text};
+use bk_proof_words::ReportForm;
 use bk_status::Row;
 use bk_verbs::proof::table_of;
 use bk_verbs::{Status, Stop};
@@ -41,6 +43,8 @@ pub(crate) fn report_answer<H: Shelf>(
     ensures status { IfOk result (λ a. (files : Files) → H.files shelf.old ≡ Some files → HasStatus files project.now a.1) }
     ensures told { IfOk result (λ a. (files : Files) → H.files shelf.old ≡ Some files → IsReportOf files project.now form a.0.items) }
     ensures ends { IfOk result (λ a. IsEnd a.1) }
+    ensures cause { IfErr result (λ stop. (files : Files) → H.files shelf.old ≡ Some files →
+        IsOutside stop ⊎ StopsTask files (status_task project.now) stop) }
     ensures reading { IfErr result IsOfReading }
     ensures failed { HasCause ReadFault (H.faults shelf.old) (H.faults shelf.new) result }
 {

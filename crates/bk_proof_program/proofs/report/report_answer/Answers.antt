@@ -1,6 +1,19 @@
-use Rattle.std.proofs.Common.{◌∙◌, subst, sym}
+use Rattle.std.proofs.Common.{◌≡◌, ◌⊎◌, ◌∙◌, Some, subst, sym, rules}
+use Rattle.bk_cli.specs.Tasks.{status_task}
+use Rattle.bk_io.specs.Files.{Files}
 use Rattle.bk_status.specs.Rows.{HasRows}
+use Rattle.bk_verbs.specs.Stops.{IsOutside, StopsPastLimits, StopsTask}
+use Rattle.bk_verbs.proofs.Stopping.{widen}
+use Rattle.bk_proof_program.proofs.Causes.{at_limits}
 use Rattle.bk_proof_program.proofs.report.report_answer.Goals as goal
+
+pub returns-in_err-table-clause-cause : goal.returns-in_err-table-clause-cause
+returns-in_err-table-clause-cause g c =
+    widen c.from_residual-in_err-table.result
+    (λ stop. IsOutside stop ⊎ StopsPastLimits c.args.project.now c.in_ok-whole.whole.project.development stop)
+    (λ stop. (files : Files) → g.H.Shelf.files c.args.shelf.now ≡ Some files → IsOutside stop ⊎ StopsTask files (status_task c.args.project.now) stop)
+    (search rules)
+    (λ stop h files told. at_limits files c.args.project.now c.in_ok-whole.whole.project.development c.in_ok-whole.whole.project.scripts stop (c.in_ok-whole.ensures.told files told) h)
 
 pub returns-clause-status : goal.returns-clause-status
 returns-clause-status g c files told = record {
