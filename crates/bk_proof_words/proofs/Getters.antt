@@ -7,10 +7,10 @@ use Rattle.clap.specs.Matches.{found_of, matched_of, first_value, raw_values}
 use Rattle.clap.specs.declared.parser.matches.ArgMatches.{ArgMatches}
 use Rattle.clap.proofs.WalkLemmas.{first_value-rows, raw_values-rows}
 use Rattle.bk_proof_words.specs.Words.{is_on}
-use Rattle.bk_proof_words.specs.Tasks.{Rest, IsVerbTask, AsksVerb, IsTaskOf, given_as, given_in}
+use Rattle.bk_proof_words.specs.Tasks.{Chosen, IsVerbTask, AsksVerb, IsTaskOf, chosen_by, chosen_in, files_in}
 use Rattle.bk_proof_words.specs.declared.task.Task.{Task}
 use Rattle.bk_proof_words.specs.declared.task.Task.TheVariants.{Goal, List as ListTask, Explain, Prune, Report, Help, ManPage}
-use Rattle.bk_proof_words.specs.declared.verbs.Given.{Given}
+use Rattle.bk_proof_words.specs.declared.verbs.Options.{Options}
 
 -- the first value of an argument, and its values
 pub first_is : (m : ArgMatches) (id : Text) (value : Option Text) → value ≡ first_value (found_of m) id → value ≡ first_of id (rows_of (found_of m))
@@ -21,14 +21,14 @@ pub all_are : (m : ArgMatches) (id : Text) (values : List Text) → values ≡ u
 all_are m id values e = e ∙ ap (λ o. unwrap_or o []) (raw_values-rows (found_of m) id)
 
 -- what is held is what is found, where each part is
-pub rest_is : (given : Given) (rest : Rest) → (given_as given).files ≡ rest.files → (given_as given).at ≡ rest.at → given.has_open ≡ rest.has_open → given.has_json ≡ rest.has_json →
-    given.has_html ≡ rest.has_html → given.has_image ≡ rest.has_image → given_as given ≡ rest
-rest_is given rest files at open json html image = λ i. record { files = files i; at = at i; has_open = open i; has_json = json i; has_html = html i; has_image = image i }
+pub chosen_is : (options : Options) (chosen : Chosen) → (chosen_by options).at ≡ chosen.at → options.has_open ≡ chosen.has_open → options.has_json ≡ chosen.has_json → options.has_html ≡ chosen.has_html →
+    options.has_image ≡ chosen.has_image → chosen_by options ≡ chosen
+chosen_is options chosen at opened json html image = λ i. record { at = at i; has_open = opened i; has_json = json i; has_html = html i; has_image = image i }
 
 -- ---- tasks
 -- what asks for a verb's task, and the other way round where neither help nor the man page is asked for
 pub asks_verb : (rows : List Row) (verb : Text) (task : Task) → is_on (codes "help") rows ≡ false → is_on (codes "man") rows ≡ false → first_of (codes "VERB") rows ≡ Some verb →
-    IsVerbTask verb (given_in rows) task → IsTaskOf rows task
+    IsVerbTask verb (files_in rows) (chosen_in rows) task → IsTaskOf rows task
 asks_verb rows verb (Goal project name at) help man v h = record { no_help = help; no_man = man; verb = verb; verb_is = v; meant = h }
 asks_verb rows verb (ListTask project is_open_only as_json) help man v h = record { no_help = help; no_man = man; verb = verb; verb_is = v; meant = h }
 asks_verb rows verb (Explain file calls is_image) help man v h = record { no_help = help; no_man = man; verb = verb; verb_is = v; meant = h }
@@ -58,14 +58,16 @@ some_once : {a b : List ℕ} → Some a ≡ Some b → a ≡ b
 unfolding value_in
 some_once {a} {b} e = ap (value_in a) e
 
--- what the rows ask for is what their verb and what stands behind it do
-pub found_task : (rows : List Row) (verb : Text) (rest : Rest) (found : Option Task) → is_on (codes "help") rows ≡ false → is_on (codes "man") rows ≡ false →
-    Some verb ≡ first_of (codes "VERB") rows → rest ≡ given_in rows → MatchOption found ((task : Task) → IsVerbTask verb rest task → ⊥) (IsVerbTask verb rest) →
-    MatchOption found ((task : Task) → IsTaskOf rows task → ⊥) (IsTaskOf rows)
-found_task rows verb rest None help man v r h = λ task a.
+-- what the rows ask for is what their verb, their files and their options do
+pub found_task : (rows : List Row) (verb : Text) (files : List Text) (chosen : Chosen) (found : Option Task) → is_on (codes "help") rows ≡ false → is_on (codes "man") rows ≡ false →
+    Some verb ≡ first_of (codes "VERB") rows → files ≡ files_in rows → chosen ≡ chosen_in rows →
+    MatchOption found ((task : Task) → IsVerbTask verb files chosen task → ⊥) (IsVerbTask verb files chosen) → MatchOption found ((task : Task) → IsTaskOf rows task → ⊥) (IsTaskOf rows)
+found_task rows verb files chosen None help man v f o h = λ task a.
     let asked = verb_asked rows task help man a in
-    h task (subst (λ x. IsVerbTask verb x task) (sym r) (subst (λ x. IsVerbTask x (given_in rows) task) (sym (some_once (v ∙ asked.verb_is))) asked.meant))
-found_task rows verb rest (Some task) help man v r h = asks_verb rows verb task help man (sym v) (subst (λ x. IsVerbTask verb x task) r h)
+    h task (subst (λ x. IsVerbTask verb files x task) (sym o) (subst (λ x. IsVerbTask verb x (chosen_in rows) task) (sym f)
+    (subst (λ x. IsVerbTask x (files_in rows) (chosen_in rows) task) (sym (some_once (v ∙ asked.verb_is))) asked.meant)))
+found_task rows verb files chosen (Some task) help man v f o h =
+    asks_verb rows verb task help man (sym v) (subst (λ x. IsVerbTask verb x (chosen_in rows) task) f (subst (λ x. IsVerbTask verb files x task) o h))
 
 -- without a verb nothing is asked for
 pub no_verb : (rows : List Row) → is_on (codes "help") rows ≡ false → is_on (codes "man") rows ≡ false → None ≡ first_of (codes "VERB") rows → (task : Task) → IsTaskOf rows task → ⊥

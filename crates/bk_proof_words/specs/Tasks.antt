@@ -2,18 +2,16 @@
 use Rattle.std.specs.Prelude.{◌≡◌, ◌<◌, ◌^◌, ℕ, Bool, true, false, List, [], ◌∷◌, Option, Some, None, option_map, unwrap_or, codes, decimal}
 use Rattle.std.specs.Borrow.{Bor}
 use Rattle.clap.specs.Words.{Row, Text, all_of, first_of}
-use Rattle.clap.specs.Walk.{texts}
 use Rattle.bk_proof_words.specs.Words.{found_rows, is_on, refusal_kinds}
 use Rattle.bk_proof_words.specs.declared.task.ReportForm.{ReportForm}
 use Rattle.bk_proof_words.specs.declared.task.ReportForm.TheVariants.{Text as TextForm, Json, Html}
 use Rattle.bk_proof_words.specs.declared.task.Task.{Task}
 use Rattle.bk_proof_words.specs.declared.task.Task.TheVariants.{Goal, List as ListTask, Explain, Prune, Report, Help, ManPage}
-use Rattle.bk_proof_words.specs.declared.verbs.Given.{Given}
+use Rattle.bk_proof_words.specs.declared.verbs.Options.{Options}
 
--- ---- what stands behind a verb
--- the files, the text after `--at`, and whether each of the other options is there
-pub record Rest : Type 0 where
-  pub files : List Text
+-- ---- options
+-- the text after `--at`, and whether each of the other options is there
+pub record Chosen : Type 0 where
   pub at : Option Text
   pub has_open : Bool
   pub has_json : Bool
@@ -21,9 +19,8 @@ pub record Rest : Type 0 where
   pub has_image : Bool
 
 -- of what the command finds
-abbrev pub given_in : List Row → Rest
-given_in rows = record {
-  files = unwrap_or (all_of (codes "FILE") rows) [];
+abbrev pub chosen_in : List Row → Chosen
+chosen_in rows = record {
   at = first_of (codes "at") rows;
   has_open = is_on (codes "open") rows;
   has_json = is_on (codes "json") rows;
@@ -32,25 +29,15 @@ given_in rows = record {
 }
 
 -- of what the program holds
-abbrev pub given_as : Given → Rest
-given_as given = record {
-  files = texts given.files.items;
-  at = option_map (λ text. text.now) given.at;
-  has_open = given.has_open;
-  has_json = given.has_json;
-  has_html = given.has_html;
-  has_image = given.has_image;
+abbrev pub chosen_by : Options → Chosen
+chosen_by options = record {
+  at = option_map (λ text. text.now) options.at;
+  has_open = options.has_open;
+  has_json = options.has_json;
+  has_html = options.has_html;
+  has_image = options.has_image;
 }
 
--- none of the options
-pub record HasNoOption (rest : Rest) : Type 0 where
-  pub no_place : rest.at ≡ None
-  pub no_open : rest.has_open ≡ false
-  pub no_json : rest.has_json ≡ false
-  pub no_html : rest.has_html ≡ false
-  pub no_image : rest.has_image ≡ false
-
--- ---- options
 -- no text and no number, or a number in decimal digits without a sign or a leading zero
 abbrev pub IsPlace : Option Text → Option ℕ → Type 0
 IsPlace None at = at ≡ None
@@ -74,28 +61,35 @@ AreExplained files file None is_image = (files ≡ file ∷ []) × (is_image ≡
 AreExplained files file (Some calls) is_image = files ≡ file ∷ calls.now ∷ []
 
 -- ---- verbs
--- the verb with this behind it is that of the task; an option that is none of the verb is none of its words
-abbrev pub IsVerbTask : (verb : Text) → Rest → Task → Type 0
-IsVerbTask verb rest (Goal project name at) = (verb ≡ codes "goal") × (rest.files ≡ project.now ∷ name.now ∷ []) × IsPlace rest.at at
-    × (rest.has_open ≡ false) × (rest.has_json ≡ false) × (rest.has_html ≡ false) × (rest.has_image ≡ false)
-IsVerbTask verb rest (ListTask project is_open_only as_json) = (verb ≡ codes "list") × (rest.files ≡ project.now ∷ [])
-    × (rest.has_open ≡ is_open_only) × (rest.has_json ≡ as_json) × (rest.at ≡ None) × (rest.has_html ≡ false) × (rest.has_image ≡ false)
-IsVerbTask verb rest (Explain file calls is_image) = (verb ≡ codes "explain") × AreExplained rest.files file.now calls is_image
-    × (rest.has_image ≡ is_image) × (rest.at ≡ None) × (rest.has_open ≡ false) × (rest.has_json ≡ false) × (rest.has_html ≡ false)
-IsVerbTask verb rest (Prune project file) = (verb ≡ codes "prune") × (rest.files ≡ project.now ∷ file.now ∷ []) × HasNoOption rest
-IsVerbTask verb rest (Report project form) = (verb ≡ codes "report") × (rest.files ≡ project.now ∷ [])
-    × (rest.has_json ≡ is_json form) × (rest.has_html ≡ is_html form) × (rest.at ≡ None) × (rest.has_open ≡ false) × (rest.has_image ≡ false)
-IsVerbTask verb rest Help = ⊥
-IsVerbTask verb rest ManPage = ⊥
+-- the verb with these files and options is that of the task; an option that is none of the verb is none of its words
+abbrev pub IsVerbTask : (verb : Text) → (files : List Text) → Chosen → Task → Type 0
+IsVerbTask verb files chosen (Goal project name at) = (verb ≡ codes "goal") × (files ≡ project.now ∷ name.now ∷ []) × IsPlace chosen.at at
+    × (chosen.has_open ≡ false) × (chosen.has_json ≡ false) × (chosen.has_html ≡ false) × (chosen.has_image ≡ false)
+IsVerbTask verb files chosen (ListTask project is_open_only as_json) = (verb ≡ codes "list") × (files ≡ project.now ∷ [])
+    × (chosen.has_open ≡ is_open_only) × (chosen.has_json ≡ as_json)
+    × (chosen.at ≡ None) × (chosen.has_html ≡ false) × (chosen.has_image ≡ false)
+IsVerbTask verb files chosen (Explain file calls is_image) = (verb ≡ codes "explain") × AreExplained files file.now calls is_image
+    × (chosen.has_image ≡ is_image) × (chosen.at ≡ None) × (chosen.has_open ≡ false) × (chosen.has_json ≡ false) × (chosen.has_html ≡ false)
+IsVerbTask verb files chosen (Prune project file) = (verb ≡ codes "prune") × (files ≡ project.now ∷ file.now ∷ []) × (chosen.at ≡ None)
+    × (chosen.has_open ≡ false) × (chosen.has_json ≡ false) × (chosen.has_html ≡ false) × (chosen.has_image ≡ false)
+IsVerbTask verb files chosen (Report project form) = (verb ≡ codes "report") × (files ≡ project.now ∷ [])
+    × (chosen.has_json ≡ is_json form) × (chosen.has_html ≡ is_html form)
+    × (chosen.at ≡ None) × (chosen.has_open ≡ false) × (chosen.has_image ≡ false)
+IsVerbTask verb files chosen Help = ⊥
+IsVerbTask verb files chosen ManPage = ⊥
 
 -- ---- what is asked for
+-- the files that the command finds
+abbrev pub files_in : List Row → List Text
+files_in rows = unwrap_or (all_of (codes "FILE") rows) []
+
 -- a verb, where neither help nor the man page is asked for
 pub record AsksVerb (rows : List Row) (task : Task) : Type 0 where
   pub no_help : is_on (codes "help") rows ≡ false
   pub no_man : is_on (codes "man") rows ≡ false
   pub verb : Text
   pub verb_is : first_of (codes "VERB") rows ≡ Some verb
-  pub meant : IsVerbTask verb (given_in rows) task
+  pub meant : IsVerbTask verb (files_in rows) (chosen_in rows) task
 
 -- help where `--help` is there, whatever else is, or else the man page where `--man` is, or else the task of the verb
 abbrev pub IsTaskOf : List Row → Task → Type 0

@@ -1,17 +1,17 @@
 //! The task of a verb, its files and its options.
 
-ghost use Rattle.std.specs.Prelude.{◌≡◌, ◌<◌, ◌^◌, ℕ, Option, None, option_map, decimal, MatchBool, MatchOption, codes};
-ghost use Rattle.bk_proof_words.specs.Tasks.{IsPlace, IsVerbTask, given_as, is_html, is_json};
+ghost use Rattle.std.specs.Prelude.{◌≡◌, ◌<◌, ◌^◌, ℕ, true, false, Option, None, [], ◌∷◌, option_map, decimal, MatchBool, MatchOption, codes};
+ghost use Rattle.clap.specs.Walk.{texts};
+ghost use Rattle.bk_proof_words.specs.Tasks.{IsPlace, IsVerbTask, chosen_by, is_html, is_json};
 ghost use Rattle.bk_proof_words.specs.declared.task.ReportForm.{ReportForm};
 ghost use Rattle.bk_proof_words.specs.declared.task.Task.{Task};
 
 use crate::task::{ReportForm, Task};
 use itoa::Buffer;
 
-/// The files and the options behind a verb: the text after `--at`, and which of the others are there.
-#[derive(Drop)]
-pub(crate) struct Given<'a> {
-    pub(crate) files: Vec<&'a str>,
+/// The options behind a verb: the text after `--at`, and which of the others are there.
+#[derive(Clone, Copy)]
+pub(crate) struct Options<'a> {
     pub(crate) at: Option<&'a str>,
     pub(crate) has_open: bool,
     pub(crate) has_json: bool,
@@ -21,48 +21,168 @@ pub(crate) struct Given<'a> {
 
 /// The task of a verb, unless the verb is none of the table, or it has too few files or too many, or an option that is none of it, or no
 /// number after `--at`.
-pub(crate) fn verb_task<'a>(verb: &str, given: &Given<'a>) -> Option<Task<'a>>
+pub(crate) fn verb_task<'a>(
+    verb: &str,
+    files: &[&'a str],
+    options: &Options<'_>,
+) -> Option<Task<'a>>
     ensures { MatchOption result
-        ((task : Task) → IsVerbTask verb.now (given_as given.now) task → ⊥)
-        (IsVerbTask verb.now (given_as given.now)) }
+        ((task : Task) → IsVerbTask verb.now (texts files.now) (chosen_by options.now) task → ⊥)
+        (IsVerbTask verb.now (texts files.now) (chosen_by options.now)) }
 {
-    match verb {
-        "goal" => goal_task(given),
-        "list" => list_task(given),
-        "explain" => explain_task(given),
-        "prune" => prune_task(given),
-        "report" => report_task(given),
+    match files {
+        [file] => of_one(verb, *file, options),
+        [file, other] => of_two(verb, *file, *other, options),
         _ => None,
     }
 }
 
-// `goal PROJECT NAME [--at N]`.
-fn goal_task<'a>(given: &Given<'a>) -> Option<Task<'a>>
+// What a verb with one file asks for.
+fn of_one<'a>(verb: &str, file: &'a str, options: &Options<'_>) -> Option<Task<'a>>
     ensures { MatchOption result
-        ((task : Task) → IsVerbTask (codes "goal") (given_as given.now) task → ⊥)
-        (IsVerbTask (codes "goal") (given_as given.now)) }
+        ((task : Task) → IsVerbTask verb.now (file.now ∷ []) (chosen_by options.now) task → ⊥)
+        (IsVerbTask verb.now (file.now ∷ []) (chosen_by options.now)) }
 {
-    if given.has_open || given.has_json || given.has_html || given.has_image {
+    match verb {
+        "list" => list_task(file, options),
+        "explain" => explained_project(file, options),
+        "report" => report_task(file, options),
+        _ => None,
+    }
+}
+
+// What a verb with two files asks for.
+fn of_two<'a>(
+    verb: &str,
+    file: &'a str,
+    other: &'a str,
+    options: &Options<'_>,
+) -> Option<Task<'a>>
+    ensures { MatchOption result
+        ((task : Task) → IsVerbTask verb.now (file.now ∷ other.now ∷ []) (chosen_by options.now) task → ⊥)
+        (IsVerbTask verb.now (file.now ∷ other.now ∷ []) (chosen_by options.now)) }
+{
+    match verb {
+        "goal" => goal_task(file, other, options),
+        "explain" => explained_calls(file, other, options),
+        "prune" => prune_task(file, other, options),
+        _ => None,
+    }
+}
+
+// `list PROJECT [--open] [--json]`.
+fn list_task<'a>(project: &'a str, options: &Options<'_>) -> Option<Task<'a>>
+    ensures { MatchOption result
+        ((task : Task) → IsVerbTask (codes "list") (project.now ∷ []) (chosen_by options.now) task → ⊥)
+        (IsVerbTask (codes "list") (project.now ∷ []) (chosen_by options.now)) }
+{
+    if has_place(options) || options.has_html || options.has_image {
         return None;
     }
-    let at = place_in(given.at)?;
-    match given.files.as_slice() {
-        [project, name] => Some(Task::Goal {
-            project: *project,
-            name: *name,
-            at,
-        }),
-        _ => None,
+    Some(Task::List {
+        project,
+        is_open_only: options.has_open,
+        as_json: options.has_json,
+    })
+}
+
+// `explain PROJECT`.
+fn explained_project<'a>(project: &'a str, options: &Options<'_>) -> Option<Task<'a>>
+    ensures { MatchOption result
+        ((task : Task) → IsVerbTask (codes "explain") (project.now ∷ []) (chosen_by options.now) task → ⊥)
+        (IsVerbTask (codes "explain") (project.now ∷ []) (chosen_by options.now)) }
+{
+    if shows_more(options) || options.has_image {
+        return None;
+    }
+    Some(Task::Explain {
+        file: project,
+        calls: None,
+        is_image: false,
+    })
+}
+
+// `explain PROJECT CALLS`, or `explain IMAGE CALLS --image`.
+fn explained_calls<'a>(file: &'a str, calls: &'a str, options: &Options<'_>) -> Option<Task<'a>>
+    ensures { MatchOption result
+        ((task : Task) → IsVerbTask (codes "explain") (file.now ∷ calls.now ∷ []) (chosen_by options.now) task → ⊥)
+        (IsVerbTask (codes "explain") (file.now ∷ calls.now ∷ []) (chosen_by options.now)) }
+{
+    if shows_more(options) {
+        return None;
+    }
+    Some(Task::Explain {
+        file,
+        calls: Some(calls),
+        is_image: options.has_image,
+    })
+}
+
+// `prune PROJECT FILE`.
+fn prune_task<'a>(project: &'a str, file: &'a str, options: &Options<'_>) -> Option<Task<'a>>
+    ensures { MatchOption result
+        ((task : Task) → IsVerbTask (codes "prune") (project.now ∷ file.now ∷ []) (chosen_by options.now) task → ⊥)
+        (IsVerbTask (codes "prune") (project.now ∷ file.now ∷ []) (chosen_by options.now)) }
+{
+    if shows_more(options) || options.has_image {
+        return None;
+    }
+    Some(Task::Prune { project, file })
+}
+
+// `report PROJECT`, with `--json` or `--html` or neither.
+fn report_task<'a>(project: &'a str, options: &Options<'_>) -> Option<Task<'a>>
+    ensures { MatchOption result
+        ((task : Task) → IsVerbTask (codes "report") (project.now ∷ []) (chosen_by options.now) task → ⊥)
+        (IsVerbTask (codes "report") (project.now ∷ []) (chosen_by options.now)) }
+{
+    if has_place(options) || options.has_open || options.has_image {
+        return None;
+    }
+    let form = form_of(options.has_json, options.has_html)?;
+    Some(Task::Report { project, form })
+}
+
+// `goal PROJECT NAME [--at N]`.
+fn goal_task<'a>(project: &'a str, name: &'a str, options: &Options<'_>) -> Option<Task<'a>>
+    ensures { MatchOption result
+        ((task : Task) → IsVerbTask (codes "goal") (project.now ∷ name.now ∷ []) (chosen_by options.now) task → ⊥)
+        (IsVerbTask (codes "goal") (project.now ∷ name.now ∷ []) (chosen_by options.now)) }
+{
+    if options.has_open || options.has_json || options.has_html || options.has_image {
+        return None;
+    }
+    let at = place_in(options)?;
+    Some(Task::Goal { project, name, at })
+}
+
+// Whether there is an option other than `--image`.
+fn shows_more(options: &Options<'_>) -> bool
+    ensures none { result ≡ false → ((chosen_by options.now).at ≡ None) × (options.now.has_open ≡ false) ×
+        (options.now.has_json ≡ false) × (options.now.has_html ≡ false) }
+    ensures some { result ≡ true → (chosen_by options.now).at ≡ None → options.now.has_open ≡ false →
+        options.now.has_json ≡ false → options.now.has_html ≡ false → ⊥ }
+{
+    has_place(options) || options.has_open || options.has_json || options.has_html
+}
+
+// Whether there is a text after `--at`.
+fn has_place(options: &Options<'_>) -> bool
+    ensures { MatchBool result ((chosen_by options.now).at ≡ None → ⊥) ((chosen_by options.now).at ≡ None) }
+{
+    match options.at {
+        Some(_) => true,
+        None => false,
     }
 }
 
 // The number after `--at`, or none where that is not there.
-fn place_in(at: Option<&str>) -> Option<Option<usize>>
+fn place_in(options: &Options<'_>) -> Option<Option<usize>>
     ensures { MatchOption result
-        ((place : Option ℕ) → IsPlace (option_map (λ text. text.now) at.entry) place → ⊥)
-        (IsPlace (option_map (λ text. text.now) at.entry)) }
+        ((place : Option ℕ) → IsPlace (chosen_by options.now).at place → ⊥)
+        (IsPlace (chosen_by options.now).at) }
 {
-    match at {
+    match options.at {
         Some(text) => match number_of(text) {
             Some(number) => Some(Some(number)),
             None => None,
@@ -84,101 +204,6 @@ fn number_of(text: &str) -> Option<usize>
             }
         }
         Err(_) => None,
-    }
-}
-
-// Whether there is a text after `--at`.
-fn has_place(given: &Given<'_>) -> bool
-    ensures { MatchBool result ((given_as given.now).at ≡ None → ⊥) ((given_as given.now).at ≡ None) }
-{
-    match given.at {
-        Some(_) => true,
-        None => false,
-    }
-}
-
-// `list PROJECT [--open] [--json]`.
-fn list_task<'a>(given: &Given<'a>) -> Option<Task<'a>>
-    ensures { MatchOption result
-        ((task : Task) → IsVerbTask (codes "list") (given_as given.now) task → ⊥)
-        (IsVerbTask (codes "list") (given_as given.now)) }
-{
-    if has_place(given) || given.has_html || given.has_image {
-        return None;
-    }
-    match given.files.as_slice() {
-        [project] => Some(Task::List {
-            project: *project,
-            is_open_only: given.has_open,
-            as_json: given.has_json,
-        }),
-        _ => None,
-    }
-}
-
-// `explain PROJECT`, `explain PROJECT CALLS`, `explain IMAGE CALLS --image`.
-fn explain_task<'a>(given: &Given<'a>) -> Option<Task<'a>>
-    ensures { MatchOption result
-        ((task : Task) → IsVerbTask (codes "explain") (given_as given.now) task → ⊥)
-        (IsVerbTask (codes "explain") (given_as given.now)) }
-{
-    if has_place(given) || given.has_open || given.has_json || given.has_html {
-        return None;
-    }
-    match given.files.as_slice() {
-        [file] if !given.has_image => Some(Task::Explain {
-            file: *file,
-            calls: None,
-            is_image: false,
-        }),
-        [file, calls] => Some(Task::Explain {
-            file: *file,
-            calls: Some(*calls),
-            is_image: given.has_image,
-        }),
-        _ => None,
-    }
-}
-
-// `prune PROJECT FILE`.
-fn prune_task<'a>(given: &Given<'a>) -> Option<Task<'a>>
-    ensures { MatchOption result
-        ((task : Task) → IsVerbTask (codes "prune") (given_as given.now) task → ⊥)
-        (IsVerbTask (codes "prune") (given_as given.now)) }
-{
-    if has_place(given)
-        || given.has_open
-        || given.has_json
-        || given.has_html
-        || given.has_image
-    {
-        return None;
-    }
-    match given.files.as_slice() {
-        [project, file] => Some(Task::Prune {
-            project: *project,
-            file: *file,
-        }),
-        _ => None,
-    }
-}
-
-// `report PROJECT`, with `--json` or `--html` or neither.
-fn report_task<'a>(given: &Given<'a>) -> Option<Task<'a>>
-    ensures { MatchOption result
-        ((task : Task) → IsVerbTask (codes "report") (given_as given.now) task → ⊥)
-        (IsVerbTask (codes "report") (given_as given.now)) }
-{
-    if has_place(given) || given.has_open || given.has_image {
-        return None;
-    }
-    let form = form_of(given.has_json, given.has_html)?;
-    match given.files.as_slice() {
-        [project] => Some(Task::Report {
-            project: *project,
-            form,
-        }),
-        _ => None,
     }
 }
 

@@ -5,11 +5,11 @@ ghost use Rattle.clap.specs.Words.{app_of, first_of, found_of, matched_of, raw_v
 ghost use Rattle.clap.specs.Walk.{texts};
 ghost use Rattle.bk_cli.specs.declared.words.WordsFault.TheVariants.{Refused};
 ghost use Rattle.bk_proof_words.specs.Words.{flag_rule, found_rows, is_on, program_command, refusal_kinds};
-ghost use Rattle.bk_proof_words.specs.Tasks.{AskForNothing, Asks, IsTaskOf, given_as, given_in};
+ghost use Rattle.bk_proof_words.specs.Tasks.{AskForNothing, Asks, IsTaskOf, chosen_by, chosen_in};
 ghost use Rattle.bk_proof_words.specs.declared.task.Task.{Task};
 
 use crate::task::Task;
-use crate::verbs::{Given, verb_task};
+use crate::verbs::{Options, verb_task};
 use bk_cli::WordsFault;
 use clap::error::ErrorKind;
 use clap::{Arg, ArgAction, ArgMatches, Command};
@@ -98,23 +98,22 @@ fn task_of<'a>(alloc: Global, matches: &ArgMatches<'a>) -> Result<Option<Task<'a
     let Some(verb) = value_of(matches, "VERB") else {
         return Ok(None);
     };
-    let given = given_of(alloc, matches)?;
-    Ok(verb_task(verb, &given))
+    let files = files_of(alloc, matches)?;
+    let options = options_of(matches);
+    Ok(verb_task(verb, &files, &options))
 }
 
-// The files and the options that the command found.
-fn given_of<'a>(alloc: Global, matches: &ArgMatches<'a>) -> Result<Given<'a>, AllocError>
-    ensures { IfOk result (λ given. given_as given ≡ given_in (rows_of (found_of matches.now))) }
+// The options that the command found.
+fn options_of<'a>(matches: &ArgMatches<'a>) -> Options<'a>
+    ensures { chosen_by result ≡ chosen_in (rows_of (found_of matches.now)) }
 {
-    let files = files_of(alloc, matches)?;
-    Ok(Given {
-        files,
+    Options {
         at: value_of(matches, "at"),
         has_open: has_flag(matches, "open"),
         has_json: has_flag(matches, "json"),
         has_html: has_flag(matches, "html"),
         has_image: has_flag(matches, "image"),
-    })
+    }
 }
 
 // The files that the words name.

@@ -1,8 +1,8 @@
-use Rattle.std.proofs.Common.{sym, ◌∙◌}
-use Rattle.clap.specs.Walk.{rows_of}
+use Rattle.std.proofs.Common.{sym, ◌∙◌, ap, codes}
+use Rattle.clap.specs.Walk.{rows_of, texts}
 use Rattle.clap.specs.Matches.{found_of}
-use Rattle.bk_proof_words.specs.Tasks.{given_as}
-use Rattle.bk_proof_words.proofs.Getters.{found_task, no_verb}
+use Rattle.bk_proof_words.specs.Tasks.{chosen_by}
+use Rattle.bk_proof_words.proofs.Getters.{all_are, found_task, no_verb}
 use Rattle.bk_proof_words.proofs.words.task_of.Goals as goal
 
 pub returns-in-None : goal.returns-in-None
@@ -11,5 +11,7 @@ returns-in-None c =
 
 pub returns : goal.returns
 returns c =
-    found_task (rows_of (found_of c.args.matches.now)) c.in-Some.verb.now (given_as c.in_ok-given.given) c.verb_task.result
-    (sym c.has_flag.ensures ∙ c.if-not-has_flag.true) (sym c.has_flag-2.ensures ∙ c.if-not-has_flag-2.true) c.in-Some.ensures c.in_ok-given.ensures c.verb_task.ensures
+    found_task (rows_of (found_of c.args.matches.now)) c.in-Some.verb.now (texts c.deref.result.now) (chosen_by c.options_of-options.result) c.verb_task.result
+    (sym c.has_flag.ensures ∙ c.if-not-has_flag.true) (sym c.has_flag-2.ensures ∙ c.if-not-has_flag-2.true) c.in-Some.ensures
+    (ap texts c.deref.ensures.value ∙ all_are c.args.matches.now (codes "FILE") (texts c.in_ok-files.files.items) c.in_ok-files.ensures)
+    c.options_of-options.ensures c.verb_task.ensures
