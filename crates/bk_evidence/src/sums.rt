@@ -46,10 +46,7 @@ fn proved_count(items: &[Item]) -> usize
 fn left_count(items: &[Item]) -> usize
     ensures { result ≡ count_items (λ state. not (rows.is_settled state)) items.now }
 {
-    items
-        .iter()
-        .filter(|item| is_left(item.state))
-        .count()
+    items.iter().filter(|item| is_left(item.state)).count()
 }
 
 /// The sums over the items of one kind.

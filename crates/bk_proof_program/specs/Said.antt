@@ -99,11 +99,13 @@ pub record TellsUsage (words : List (List ℕ)) (old new : Option (List ℕ)) (s
 
 -- one of these
 abbrev pub IsWritten : Files → (words : List (List ℕ)) → (old new : Option (List ℕ)) → Status → Type 0
-IsWritten files words old new status = TellsAnswer files words old new status ⊎ (TellsCause files words old new status ⊎ TellsUsage words old new status)
+IsWritten files words old new status = TellsAnswer files words old new status
+    ⊎ (TellsCause files words old new status ⊎ TellsUsage words old new status)
 
 -- ---- exit codes
 -- the code is that of a status with which this is written of what the files tell, and which tells no fault of a device that did not fail
-pub record IsOutcome (told : Option Files) (words : List (List ℕ)) (old new : Option (List ℕ)) (reads_before reads_now writes_before writes_now code : ℕ) : Type 0 where
+pub record IsOutcome (told : Option Files) (words : List (List ℕ)) (old new : Option (List ℕ))
+    (reads_before reads_now writes_before writes_now code : ℕ) : Type 0 where
   pub status : Status
   pub code_is : code ≡ code_of status
   pub written : IsSaid status → (files : Files) → told ≡ Some files → IsWritten files words old new status

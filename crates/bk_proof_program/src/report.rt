@@ -16,9 +16,7 @@ ghost use Rattle.bk_proof_program.specs.Told.{WritesReport, IsReportOf};
 
 use crate::list::{all_items, status_of, strays};
 use crate::project::{NamedText, Whole, found, notes_of, obligation_named, read_whole};
-use bk_evidence::{
-    File, Report, claims_of_reports, html_page, inputs, json_text, report_text,
-};
+use bk_evidence::{File, Report, claims_of_reports, html_page, inputs, json_text, report_text};
 use bk_goal::{Asked, Note, goal_text};
 use bk_io::{Memory, Shelf, Text};
 use bk_proof_words::ReportForm;

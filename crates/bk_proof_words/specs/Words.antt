@@ -27,7 +27,8 @@ flag_rule name = record (new_rule name) { long = Some name; action = Some SetTru
 
 -- without arguments, without the flags for help and version of `clap`; its words do not begin with the program's name
 abbrev pub bare_command : App
-bare_command = on_top (λ s. record s { no_binary_name = true; disable_help_flag = true; disable_version_flag = true }) (new_app (codes "bkproof"))
+bare_command =
+    on_top (λ s. record s { no_binary_name = true; disable_help_flag = true; disable_version_flag = true }) (new_app (codes "bkproof"))
 
 -- with the verb, the files and `--at`
 abbrev pub command_of_words : App

@@ -52,12 +52,7 @@ fn of_one<'a>(verb: &str, file: &'a str, options: &Options<'_>) -> Option<Task<'
 }
 
 // What a verb with two files asks for.
-fn of_two<'a>(
-    verb: &str,
-    file: &'a str,
-    other: &'a str,
-    options: &Options<'_>,
-) -> Option<Task<'a>>
+fn of_two<'a>(verb: &str, file: &'a str, other: &'a str, options: &Options<'_>) -> Option<Task<'a>>
     ensures { MatchOption result
         ((task : Task) → IsVerbTask verb.now (file.now ∷ other.now ∷ []) (chosen_by options.now) task → ⊥)
         (IsVerbTask verb.now (file.now ∷ other.now ∷ []) (chosen_by options.now)) }
