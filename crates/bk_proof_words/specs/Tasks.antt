@@ -44,12 +44,13 @@ IsPlace None at = at ≡ None
 IsPlace (Some text) None = ⊥
 IsPlace (Some text) (Some n) = (n < 2 ^ 64) × (text ≡ decimal n)
 
--- the options for the form of a report
+-- whether `--json` asks for the form of a report
 abbrev pub is_json : ReportForm → Bool
 is_json TextForm = false
 is_json Json = true
 is_json Html = false
 
+-- whether `--html` does
 abbrev pub is_html : ReportForm → Bool
 is_html TextForm = false
 is_html Json = false
