@@ -10,9 +10,9 @@ use Rattle.bk_proof_words.proofs.words.asked.Goals as goal
 
 pub returns-in_err-matches-clause-nothing : goal.returns-in_err-matches-clause-nothing
 returns-in_err-matches-clause-nothing c =
-    handed_on c.from_residual-in_err-matches.result c.in_err-matches.field-0.0
+    handed_on c.from_residual.result c.in_err-matches.field-0.0
     (λ fault. fault ≡ Refused → AskForNothing (map (string_bytes {Z = Global}) c.args.given.now))
-    c.from_residual-in_err-matches.ensures.1
+    c.from_residual.ensures.1
     (λ e task asks. c.in_err-matches.ensures.refused e asks.0)
 
 pub returns-in-Some-clause-asked : goal.returns-in-Some-clause-asked
