@@ -1,4 +1,4 @@
-use Rattle.std.proofs.Common.{◌≡◌, true, rules, ap, ap₂, codes, Option, Some, None, IsSomeAnd, ◌∙◌}
+use Rattle.std.proofs.Common.{◌≡◌, true, ap, ap₂, codes, Option, Some, None, IsSomeAnd, ◌∙◌}
 use Rattle.std.proofs.lemmas.Result.{IfOk-weaker}
 use Rattle.clap.specs.Simple.{App, app_of, app_of_fields, on_top}
 use Rattle.clap.specs.Lexer.{usize_max}
@@ -38,8 +38,8 @@ with_flags_4 = with_rule (with_rule with_flags_2 (flag_rule (codes "html"))) (fl
 pub returns : goal.returns
 unfolding program_command
 returns c =
-    let verb_is : rule_of c.new-verb.result ≡ verb_rule = search rules in
-    let named : rule_of c.new.result ≡ new_rule (codes "FILE") = search rules in
+    let verb_is : rule_of c.new-verb.result ≡ verb_rule = c.new-verb.ensures.rule in
+    let named : rule_of c.new.result ≡ new_rule (codes "FILE") = c.new.ensures.rule in
     let file_is : rule_of c.num_args-files.result ≡ file_rule =
     ap rule_of c.num_args-files.ensures.0 ∙
     (ap (λ n. rule_of (record c.action.result { num_vals = n })) (some_only c.num_args-files.result.num_vals _ c.num_args-files.ensures.1) ∙
@@ -50,8 +50,8 @@ returns c =
     let unnamed_is : app_of c.no_binary_name.result ≡ unnamed (new_app (codes "bkproof")) = ap app_of_fields c.no_binary_name.ensures ∙ ap unnamed c.new-3.ensures.app in
     let helpless_is : app_of c.disable_help_flag.result ≡ without_help (unnamed (new_app (codes "bkproof"))) = ap app_of_fields c.disable_help_flag.ensures ∙ ap without_help unnamed_is in
     let bare_is : app_of c.disable_version_flag.result ≡ bare_command = ap app_of_fields c.disable_version_flag.ensures ∙ ap without_version helpless_is in
-    let first_is : app_of c.in_ok-arg.field-0 ≡ with_rule bare_command verb_rule = c.in_ok-arg.ensures.shape (search rules) ∙ ap₂ with_rule bare_is verb_is in
-    let second_is : app_of c.in_ok-arg-2.field-0 ≡ with_rule (with_rule bare_command verb_rule) file_rule = c.in_ok-arg-2.ensures.shape (search rules) ∙ ap₂ with_rule first_is file_is in
+    let first_is : app_of c.in_ok-arg.field-0 ≡ with_rule bare_command verb_rule = c.in_ok-arg.ensures.shape c.new-verb.ensures.optional.1 ∙ ap₂ with_rule bare_is verb_is in
+    let second_is : app_of c.in_ok-arg-2.field-0 ≡ with_rule (with_rule bare_command verb_rule) file_rule = c.in_ok-arg-2.ensures.shape (ap (λ (a : Arg). a.global) c.num_args-files.ensures.0 ∙ (ap (λ (a : Arg). a.global) c.action.ensures ∙ c.new.ensures.optional.1)) ∙ ap₂ with_rule first_is file_is in
     let third_is : app_of c.in_ok-arg-3.field-0 ≡ command_of_words = c.in_ok-arg-3.ensures.shape (ap (λ (a : Arg). a.global) c.long-at.ensures ∙ c.new-2.ensures.optional.1) ∙ ap₂ with_rule second_is place_is in
     let open_is : app_of c.in_ok-arg-4.field-0 ≡ with_rule command_of_words (flag_rule (codes "open")) = c.in_ok-arg-4.ensures.shape c.flag.ensures.local ∙ ap₂ with_rule third_is c.flag.ensures.rule in
     let json_is : app_of c.in_ok-arg-5.field-0 ≡ with_flags_2 = c.in_ok-arg-5.ensures.shape c.flag-2.ensures.local ∙ ap₂ with_rule open_is c.flag-2.ensures.rule in
