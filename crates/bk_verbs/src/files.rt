@@ -29,7 +29,7 @@ use std::str;
 const LIMIT_OF_LENGTH: u8 = 1;
 
 /// The bytes of the file with this name.
-pub(crate) fn fetch<H: Shelf>(alloc: Global, name: &str, shelf: &mut H) -> Result<Vec<u8>, Stop>
+pub fn fetch<H: Shelf>(alloc: Global, name: &str, shelf: &mut H) -> Result<Vec<u8>, Stop>
     ensures cause { IfErr result (λ stop. (files : Files) → H.files shelf.old ≡ Some files →
         IsOutside stop ⊎ StopsAtFile files name.now stop) }
     ensures reading { IfErr result IsOfReading }
@@ -51,7 +51,11 @@ pub(crate) fn fetch<H: Shelf>(alloc: Global, name: &str, shelf: &mut H) -> Resul
 }
 
 /// The bytes of the files with these names, in order.
-fn fetch_all<H: Shelf>(alloc: Global, names: &[&str], shelf: &mut H) -> Result<Vec<Vec<u8>>, Stop>
+pub fn fetch_all<H: Shelf>(
+    alloc: Global,
+    names: &[&str],
+    shelf: &mut H,
+) -> Result<Vec<Vec<u8>>, Stop>
     ensures cause { IfErr result (λ stop. (files : Files) → H.files shelf.old ≡ Some files →
         IsOutside stop ⊎ StopsAtFiles files (map (λ name. name.now) names.now) stop) }
     ensures reading { IfErr result IsOfReading }
@@ -71,14 +75,14 @@ fn fetch_all<H: Shelf>(alloc: Global, names: &[&str], shelf: &mut H) -> Result<V
 
 /// What a project says.
 #[derive(Drop)]
-pub(crate) struct Project {
-    pub(crate) development: Development,
+pub struct Project {
+    pub development: Development,
     /// The scripts of its proof files; none where these were not fetched.
-    pub(crate) scripts: Scripts,
+    pub scripts: Scripts,
 }
 
 /// Reads a project: its file, the component files that it names, and with proofs also the proof files.
-pub(crate) fn read_project<H: Shelf>(
+pub fn read_project<H: Shelf>(
     alloc: Global,
     name: &str,
     with_proofs: bool,
@@ -105,8 +109,8 @@ pub(crate) fn read_project<H: Shelf>(
     })
 }
 
-// The development that the texts of the component files are read as.
-fn read_components(
+/// The development that the texts of the component files are read as.
+pub fn read_components(
     alloc: Global,
     name: &str,
     lines: &[ProjectLine],
@@ -128,8 +132,8 @@ fn read_components(
     }
 }
 
-// The scripts of the proof files.
-fn read_scripts(alloc: Global, proofs: &[&str], texts: &[Vec<u8>]) -> Result<Scripts, Stop>
+/// The scripts of the proof files.
+pub fn read_scripts(alloc: Global, proofs: &[&str], texts: &[Vec<u8>]) -> Result<Scripts, Stop>
     requires countable { length texts.now < 2 ^ 32 }
     ensures cause { IfErr result (λ stop. (fault : ScriptFault) × IsFaultOf (map (λ text. text.items) texts.now) fault ×
         (stop ≡ stop_of_proofs fault (map (λ proof. proof.now) proofs.now))) }
@@ -142,8 +146,12 @@ fn read_scripts(alloc: Global, proofs: &[&str], texts: &[Vec<u8>]) -> Result<Scr
     }
 }
 
-// The lines of a project file.
-fn read_lines<H: Shelf>(alloc: Global, name: &str, shelf: &mut H) -> Result<Vec<ProjectLine>, Stop>
+/// The lines of a project file.
+pub fn read_lines<H: Shelf>(
+    alloc: Global,
+    name: &str,
+    shelf: &mut H,
+) -> Result<Vec<ProjectLine>, Stop>
     ensures cause { IfErr result (λ stop. (files : Files) (with_proofs : Bool) → H.files shelf.old ≡ Some files →
         IsOutside stop ⊎ StopsAtProject with_proofs files name.now stop) }
     ensures reading { IfErr result IsOfReading }
@@ -161,9 +169,9 @@ fn read_lines<H: Shelf>(alloc: Global, name: &str, shelf: &mut H) -> Result<Vec<
     }
 }
 
-// The names of the component files, or of the proof files, in order.
+/// The names of the component files, or of the proof files, in order.
 #[tactic(auto, using(crate::proofs::Projects::file_kept, crate::proofs::Projects::file_passed))]
-fn names<'a>(alloc: Global, lines: &'a [ProjectLine], of_proofs: bool) -> Result<Vec<&'a str>, Stop>
+pub fn names<'a>(alloc: Global, lines: &'a [ProjectLine], of_proofs: bool) -> Result<Vec<&'a str>, Stop>
     requires { All (λ line. IsFileName line.name) lines.now }
     ensures memory { IfErr result (λ stop. stop ≡ Memory) }
     ensures ok { IfOk result (λ names. map (λ name. name.now) names.items ≡ files_of of_proofs lines.now) }
@@ -188,8 +196,8 @@ fn names_file(kind: LineKind, of_proofs: bool) -> bool
     }
 }
 
-// The names of the proof files, in order, where they are wanted.
-fn proof_names<'a>(
+/// The names of the proof files, in order, where they are wanted.
+pub fn proof_names<'a>(
     alloc: Global,
     lines: &'a [ProjectLine],
     wanted: bool,
@@ -216,8 +224,8 @@ fn file_name(name: &Text) -> &str
     }
 }
 
-// The stop at a file of the project: the project file itself, or that of a component.
-fn refused(
+/// The stop at a file of the project: the project file itself, or that of a component.
+pub fn refused(
     alloc: Global,
     refusal: Refusal,
     project: &str,
@@ -288,7 +296,8 @@ fn faulty(alloc: Global, fault: ScriptFault, proofs: &[&str]) -> Result<Stop, St
     }
 }
 
-pub(crate) fn owned(alloc: Global, name: &str) -> Result<Text, Stop>
+/// The name as a text of its own.
+pub fn owned(alloc: Global, name: &str) -> Result<Text, Stop>
     ensures memory { IfErr result (λ stop. stop ≡ Memory) }
     ensures ok { IfOk result (λ text. text ≡ name.now) }
 {

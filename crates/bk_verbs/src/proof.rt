@@ -84,7 +84,7 @@ fn closed_table(alloc: Global, name: &str, project: &Project) -> Result<Table, S
 }
 
 /// The status table of a project.
-pub(crate) fn table_of(alloc: Global, name: &str, project: &Project) -> Result<Table, Stop>
+pub fn table_of(alloc: Global, name: &str, project: &Project) -> Result<Table, Stop>
     ensures cause { IfErr result (λ stop. IsOutside stop ⊎ StopsPastLimits name.now project.now.development stop) }
     ensures checks { IfErr result IsOfChecks }
     ensures rows { IfOk result (λ table.
@@ -98,11 +98,7 @@ pub(crate) fn table_of(alloc: Global, name: &str, project: &Project) -> Result<T
 }
 
 /// The obligations of a development.
-pub(crate) fn obligations_of(
-    alloc: Global,
-    name: &str,
-    dev: &Development,
-) -> Result<Vec<Obligation>, Stop>
+pub fn obligations_of(alloc: Global, name: &str, dev: &Development) -> Result<Vec<Obligation>, Stop>
     ensures cause { IfErr result (λ stop. IsOutside stop ⊎ StopsPastLimits name.now dev.now stop) }
     ensures checks { IfErr result IsOfChecks }
     ensures value { IfOk result (λ list. map named_sequent list.items ≡ numbered_obligations dev.now) }

@@ -1,0 +1,3 @@
+pub mod Depths
+pub mod Views
+pub mod Pieces

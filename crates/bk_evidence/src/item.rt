@@ -1,0 +1,201 @@
+//! Obligations with their origins and states.
+
+ghost use Rattle.std.specs.Prelude.{◌≡◌, ◌&&◌, ◌++◌, decimal, map, IfOk, OnOk};
+ghost use Rattle.bk_status.specs.Rows as meant;
+ghost use Rattle.bk_report.specs.Table.{state_text};
+ghost use Rattle.bk_evidence.specs.Items.{row_of};
+
+use bk_io::{Memory, Text};
+use bk_origins::{Component, Concern, Origin};
+use bk_places::place_of;
+use bk_status::{Row, State};
+use itoa::Buffer;
+use std::alloc::{AllocError, Global};
+
+/// An obligation: its name and state as the status table has them, what it asks, and where it comes from.
+#[derive(Drop)]
+pub struct Item {
+    pub name: Text,
+    pub state: State,
+    pub concern: Concern,
+    pub words: Text,
+    /// The component's file, and the line and column in it.
+    pub file: Text,
+    pub line: usize,
+    pub column: usize,
+    /// How many rules its script has, and `file:line:column` of the script; None where no script has its name.
+    pub script: Option<Script>,
+    /// What is open of it, as text.
+    pub shown: Text,
+}
+
+/// A script of an obligation.
+#[derive(Drop)]
+pub struct Script {
+    pub rules: usize,
+    pub place: Text,
+}
+
+/// What is known of the proof of an obligation.
+#[derive(Drop)]
+pub struct Proof {
+    pub script: Option<Script>,
+    /// What is open of it, as text.
+    pub shown: Text,
+}
+
+impl Script {
+    fn copy(&self, alloc: Global) -> Result<Script, Memory> {
+        Ok(Script {
+            rules: self.rules,
+            place: self.place.copy(alloc)?,
+        })
+    }
+}
+
+impl Proof {
+    fn copy(&self, alloc: Global) -> Result<Proof, Memory> {
+        let script = match &self.script {
+            Some(script) => Some(script.copy(alloc)?),
+            None => None,
+        };
+        Ok(Proof {
+            script,
+            shown: self.shown.copy(alloc)?,
+        })
+    }
+}
+
+/// An item for each row of a status table, with the origin and the proof of the same place in their lists.
+pub fn items(
+    alloc: Global,
+    rows: &[Row],
+    origins: &[Origin],
+    components: &[Component<'_>],
+    proofs: &[Proof],
+) -> Result<Vec<Item>, Memory>
+    ensures { IfOk result (λ items. map row_of items.items ≡ rows.now) }
+{
+    let mut items = Vec::new(alloc);
+    for (index, row) in rows.iter().enumerate() {
+        let asked = asked_of(alloc, origins.get(index), components)?;
+        let proof = proof_of(alloc, proofs.get(index))?;
+        items.push(item_of(alloc, row, asked, proof)?)?;
+    }
+    Ok(items)
+}
+
+fn item_of(alloc: Global, row: &Row, asked: Asked, proof: Proof) -> Result<Item, Memory>
+    ensures { IfOk result (λ i. row_of i ≡ row.now) }
+{
+    let name = row.name.copy(alloc)?;
+    let Asked {
+        concern,
+        words,
+        file,
+        line,
+        column,
+    } = asked;
+    let Proof { script, shown } = proof;
+    Ok(Item {
+        name,
+        state: row.state,
+        concern,
+        words,
+        file,
+        line,
+        column,
+        script,
+        shown,
+    })
+}
+
+// What is known of a proof.
+fn proof_of(alloc: Global, proof: Option<&Proof>) -> Result<Proof, Memory> {
+    match proof {
+        Some(proof) => proof.copy(alloc),
+        None => Ok(Proof {
+            script: None,
+            shown: Text::from_bytes(Vec::new(alloc)),
+        }),
+    }
+}
+
+// What an obligation asks, and where it comes from.
+#[derive(Drop)]
+struct Asked {
+    concern: Concern,
+    words: Text,
+    file: Text,
+    line: usize,
+    column: usize,
+}
+
+fn asked_of(
+    alloc: Global,
+    origin: Option<&Origin>,
+    components: &[Component<'_>],
+) -> Result<Asked, Memory> {
+    let Some(origin) = origin else {
+        return Ok(nothing_asked(alloc));
+    };
+    let words = Text::from_bytes(Vec::from_slice(alloc, &origin.words)?);
+    let Some(component) = components.get(origin.component) else {
+        return Ok(nothing_asked(alloc));
+    };
+    let place = place_of(component.text, origin.at);
+    Ok(Asked {
+        concern: origin.concern,
+        words,
+        file: Text::from_bytes(Vec::from_slice(alloc, component.file)?),
+        line: place.line,
+        column: place.column,
+    })
+}
+
+fn nothing_asked(alloc: Global) -> Asked {
+    Asked {
+        concern: Concern::Other,
+        words: Text::from_bytes(Vec::new(alloc)),
+        file: Text::from_bytes(Vec::new(alloc)),
+        line: 1,
+        column: 1,
+    }
+}
+
+/// Whether an obligation is obvious or proved.
+pub(crate) fn is_settled(state: State) -> bool
+    ensures { result ≡ meant.is_settled state }
+{
+    matches!(state, State::Obvious | State::Proved)
+}
+
+/// Whether an obligation is settled, where those are asked that are open.
+pub(crate) fn is_left_out(item: &Item, is_open_only: bool) -> bool
+    ensures { result ≡ (is_open_only && meant.is_settled item.now.state) }
+{
+    is_open_only && is_settled(item.state)
+}
+
+/// How far an obligation is proved, in words.
+pub(crate) fn write_state(text: &mut Vec<u8>, state: State) -> Result<(), AllocError>
+    ensures { OnOk result (text.new.items ≡ text.old.items ++ state_text state) }
+{
+    match state {
+        State::Obvious => text.extend_from_slice(b"obvious"),
+        State::Proved => text.extend_from_slice(b"proved"),
+        State::NoScript => text.extend_from_slice(b"no script"),
+        State::BadStep(rule) => write_count(text, b"bad step ", rule as usize),
+        State::Open(left) => write_count(text, b"open ", left as usize),
+        State::Extra(rule) => write_count(text, b"extra ", rule as usize),
+    }
+}
+
+/// Writes a count behind a word.
+pub(crate) fn write_count(text: &mut Vec<u8>, before: &[u8], count: usize) -> Result<(), AllocError>
+    ensures { OnOk result (text.new.items ≡ text.old.items ++ (before.now ++ decimal count)) }
+{
+    text.extend_from_slice(before)?;
+    text.extend_from_slice(Buffer::new().format(count).as_bytes())?;
+    Ok(())
+}

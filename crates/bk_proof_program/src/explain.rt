@@ -1,0 +1,217 @@
+//! `explain`.
+
+ghost use Rattle.std.specs.Prelude.{◌≡◌, ◌≢◌, ◌≤◌, Some, MatchBool, IfOk, IfErr, IfSome};
+ghost use Rattle.bk_io.specs.Counts.{HasCause};
+ghost use Rattle.bk_io.specs.Files.{Files};
+ghost use Rattle.bk_cli.specs.Asked.{task_of, HasSmallNumbers};
+ghost use Rattle.bk_verbs.specs.Causes.{IsOfReading};
+ghost use Rattle.bk_verbs.specs.Stops.{IsOutside};
+ghost use Rattle.bk_verbs.specs.declared.stop.Stop.TheVariants.{ReadFault};
+ghost use Rattle.bk_proof_program.specs.Explained.{task_asked, IsExplained};
+
+use bk_cli::Command;
+use bk_explain::{Source, SourceKind, explanation};
+use bk_front::{LineKind, ProjectLine, Refusal, lines};
+use bk_io::{Fetch, Memory, Shelf, Text};
+use bk_limits::{FUEL, MOST_BYTES};
+use bk_verbs::{Stop, prepare};
+use std::alloc::Global;
+use std::str;
+
+/// What is asked: a project, or an image, and calls.
+#[derive(Clone, Copy)]
+pub(crate) struct Question<'a> {
+    pub(crate) file: &'a str,
+    pub(crate) calls: Option<&'a str>,
+    pub(crate) is_image: bool,
+}
+
+/// The stop at the first fault, as `bkit` tells it, and what it means; None where there is no fault.
+pub(crate) fn explain_answer<H: Shelf>(
+    alloc: Global,
+    asked: Question<'_>,
+    shelf: &mut H,
+) -> Result<Option<(Stop, Vec<u8>)>, Stop>
+    ensures outside { IfErr result IsOutside }
+    ensures reading { IfErr result IsOfReading }
+    ensures failed { HasCause ReadFault (H.faults shelf.old) (H.faults shelf.new) result }
+    ensures stops { IfOk result (λ found. IfSome found (λ p. IsOfReading p.0 × (p.0 ≢ ReadFault))) }
+    ensures told { IfOk result (λ found. (files : Files) → H.files shelf.old ≡ Some files → IsExplained files (task_asked asked.entry) found) }
+{
+    let command = command_of(asked);
+    let stop = match prepare(alloc, command, shelf) {
+        Ok(_) => return Ok(None),
+        Err(stop) => stop,
+    };
+    if is_of_reading(&stop) {
+        return Err(stop);
+    }
+    let words = words_of(alloc, &stop, asked, shelf)?;
+    Ok(Some((stop, words)))
+}
+
+// Whether a file was there and could not be read.
+fn is_of_reading(stop: &Stop) -> bool
+    ensures { MatchBool result (stop.now ≡ ReadFault) (stop.now ≢ ReadFault) }
+{
+    matches!(stop, Stop::ReadFault)
+}
+
+// What `bkit` is to check.
+fn command_of(asked: Question<'_>) -> Command<'_>
+    ensures small { HasSmallNumbers result }
+    ensures task { task_of result ≡ task_asked asked.entry }
+{
+    let fuel = FUEL;
+    match asked.calls {
+        Some(calls) if asked.is_image => Command::Exec {
+            image: asked.file,
+            calls,
+            fuel,
+        },
+        Some(calls) => Command::Run {
+            project: asked.file,
+            calls,
+            fuel,
+        },
+        None => Command::Status {
+            project: asked.file,
+        },
+    }
+}
+
+// What a stop means.
+fn words_of<H: Shelf>(
+    alloc: Global,
+    stop: &Stop,
+    asked: Question<'_>,
+    shelf: &mut H,
+) -> Result<Vec<u8>, Memory>
+    ensures { H.faults shelf.old ≤ H.faults shelf.new }
+{
+    let texts = read_once_more(alloc, asked, shelf)?;
+    let sources = sources_of(alloc, &texts)?;
+    explanation(alloc, stop, &sources)
+}
+
+// A file, once more.
+#[derive(Drop)]
+struct FileCopy {
+    name: Text,
+    kind: SourceKind,
+    text: Vec<u8>,
+}
+
+// The files of a project and the call script, as far as they are there.
+fn read_once_more<H: Shelf>(
+    alloc: Global,
+    asked: Question<'_>,
+    shelf: &mut H,
+) -> Result<Vec<FileCopy>, Memory>
+    ensures { H.faults shelf.old ≤ H.faults shelf.new }
+{
+    let mut all = Vec::new(alloc);
+    if !asked.is_image {
+        add_project(alloc, &mut all, asked.file, shelf)?;
+    }
+    if let Some(calls) = asked.calls {
+        add_copy(alloc, &mut all, calls.as_bytes(), SourceKind::Calls, shelf)?;
+    }
+    Ok(all)
+}
+
+// The project file, which is the first, and those that it names.
+fn add_project<H: Shelf>(
+    alloc: Global,
+    all: &mut Vec<FileCopy>,
+    project: &str,
+    shelf: &mut H,
+) -> Result<(), Memory>
+    ensures { H.faults shelf.old ≤ H.faults shelf.new }
+{
+    add_copy(alloc, all, project.as_bytes(), SourceKind::Project, shelf)?;
+    let named = named_files(alloc, all)?;
+    add_copies(alloc, all, &named, shelf)
+}
+
+// The lines of the project file, which is the only copy so far; none where it is not there or at fault.
+fn named_files(alloc: Global, all: &[FileCopy]) -> Result<Vec<ProjectLine>, Memory> {
+    let Some(copy) = all.first() else {
+        return Ok(Vec::new(alloc));
+    };
+    match lines(alloc, &copy.text) {
+        Ok(named) => Ok(named),
+        Err(Refusal::Memory) => Err(Memory),
+        Err(_) => Ok(Vec::new(alloc)),
+    }
+}
+
+fn add_copies<H: Shelf>(
+    alloc: Global,
+    all: &mut Vec<FileCopy>,
+    named: &[ProjectLine],
+    shelf: &mut H,
+) -> Result<(), Memory>
+    ensures { H.faults shelf.old ≤ H.faults shelf.new }
+{
+    for line in named {
+        add_copy(alloc, all, line.name.as_bytes(), kind_of(line), shelf)?;
+    }
+    Ok(())
+}
+
+fn kind_of(line: &ProjectLine) -> SourceKind {
+    match line.kind {
+        LineKind::Proofs => SourceKind::Proofs,
+        _ => SourceKind::Component,
+    }
+}
+
+fn add_copy<H: Shelf>(
+    alloc: Global,
+    all: &mut Vec<FileCopy>,
+    name: &[u8],
+    kind: SourceKind,
+    shelf: &mut H,
+) -> Result<(), Memory>
+    ensures { H.faults shelf.old ≤ H.faults shelf.new }
+{
+    let own = Text::from_bytes(Vec::from_slice(alloc, name)?);
+    if let Some(text) = fetched(alloc, name, shelf)? {
+        all.push(FileCopy {
+            name: own,
+            kind,
+            text,
+        })?;
+    }
+    Ok(())
+}
+
+// The bytes of a file, if it is there and can be read.
+fn fetched<H: Shelf>(alloc: Global, name: &[u8], shelf: &mut H) -> Result<Option<Vec<u8>>, Memory>
+    ensures { H.faults shelf.old ≤ H.faults shelf.new }
+{
+    let Ok(name) = str::from_utf8(name) else {
+        return Ok(None);
+    };
+    let mut text = Vec::new(alloc);
+    match shelf.fetch(name, MOST_BYTES, &mut text) {
+        Ok(()) => Ok(Some(text)),
+        Err(Fetch::Memory) => Err(Memory),
+        Err(_) => Ok(None),
+    }
+}
+
+fn sources_of(alloc: Global, copies: &[FileCopy]) -> Result<Vec<Source<'_>>, Memory> {
+    let mut sources = Vec::new(alloc);
+    for copy in copies {
+        if let Ok(name) = str::from_utf8(copy.name.as_bytes()) {
+            sources.push(Source {
+                name,
+                kind: copy.kind,
+                text: &copy.text,
+            })?;
+        }
+    }
+    Ok(sources)
+}

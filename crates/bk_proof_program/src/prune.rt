@@ -1,0 +1,72 @@
+//! `prune`.
+
+ghost use Rattle.std.specs.Prelude.{◌≡◌, ◌⊎◌, Some, find, IfOk, IfErr};
+ghost use Rattle.std.specs.Option.{option_copied};
+ghost use Rattle.std.specs.Str.{bytes_eq};
+ghost use Rattle.bk_io.specs.Counts.{HasCause};
+ghost use Rattle.bk_io.specs.Files.{Files};
+ghost use Rattle.bk_cli.specs.Tasks.{status_task};
+ghost use Rattle.bk_verbs.specs.Causes.{IsOfReading};
+ghost use Rattle.bk_verbs.specs.Stops.{IsOutside, StopsTask};
+ghost use Rattle.bk_verbs.specs.declared.stop.Stop.TheVariants.{ReadFault};
+ghost use Rattle.bk_proof_program.specs.Answers.{IsEnd};
+ghost use Rattle.bk_proof_program.specs.Prunes as meant;
+ghost use Rattle.bk_proof_program.specs.Prunes.{IsPruneOf};
+
+use crate::project::{NamedText, read_whole};
+use bk_io::{Memory, Shelf};
+use bk_prune::prune_file;
+use bk_verbs::{Status, Stop};
+use std::alloc::Global;
+
+/// A proof file of a project without rules that nothing uses; where the project has no such file, a line that says so, with the status of
+/// wrong words.
+pub(crate) fn prune_answer<H: Shelf>(
+    alloc: Global,
+    project: &str,
+    file: &str,
+    shelf: &mut H,
+) -> Result<(Vec<u8>, Status), Stop>
+    ensures told { IfOk result (λ a. (files : Files) → H.files shelf.old ≡ Some files →
+        IsPruneOf files project.now file.now a.0.items a.1) }
+    ensures ends { IfOk result (λ a. IsEnd a.1) }
+    ensures cause { IfErr result (λ stop. (files : Files) → H.files shelf.old ≡ Some files →
+        IsOutside stop ⊎ StopsTask files (status_task project.now) stop) }
+    ensures reading { IfErr result IsOfReading }
+    ensures failed { HasCause ReadFault (H.faults shelf.old) (H.faults shelf.new) result }
+{
+    let whole = read_whole(alloc, project, shelf)?;
+    let Some(proofs) = file_named(&whole.files.proofs, file.as_bytes()) else {
+        let text = unknown(alloc, file)?;
+        return Ok((text, Status::Usage));
+    };
+    let dev = &whole.project.development;
+    let pruned = prune_file(alloc, dev, &whole.table, &whole.list, &proofs.text)?;
+    Ok((pruned.text, status_of(pruned.unproved)))
+}
+
+// The first file with a name.
+fn file_named<'a>(files: &'a [NamedText], name: &[u8]) -> Option<&'a NamedText>
+    ensures { option_copied result ≡ find (λ f. bytes_eq name.now f.name) files.now }
+{
+    files.iter().find(|file| name == file.name.as_bytes())
+}
+
+fn status_of(unproved: usize) -> Status
+    ensures value { result ≡ meant.status_with unproved }
+    ensures ends { IsEnd result }
+{
+    if unproved == 0 {
+        Status::Done
+    } else {
+        Status::Unproved
+    }
+}
+
+fn unknown(alloc: Global, file: &str) -> Result<Vec<u8>, Memory> {
+    let mut text = Vec::new(alloc);
+    text.extend_from_slice(b"unknown ")?;
+    text.extend_from_slice(file.as_bytes())?;
+    text.extend_from_slice(b": no line of the project names this proof file\n")?;
+    Ok(text)
+}

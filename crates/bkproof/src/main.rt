@@ -1,0 +1,21 @@
+//! Shows proofs, faults and the status of developments in the classical B Method.
+#![tactic(auto)]
+
+use bk_io::{FileShelf, StdSink};
+pub use bk_proof_program::bkproof;
+use bk_proof_program::exit_code;
+use std::process::ExitCode;
+use std::{env, io};
+
+// The program over the system's files and standard output.
+fn main(rt: HostRuntime) -> ExitCode {
+    let mut shelf = FileShelf::new(&rt);
+    let mut out = StdSink::new(&rt);
+    exit_code(rt.alloc(), given_words(&rt), &mut shelf, &mut out)
+}
+
+// The words behind the program's name.
+fn given_words(rt: &HostRuntime) -> io::Result<Vec<String>> {
+    let words = env::args(rt)?.skip(1).collect(rt.alloc())?;
+    Ok(words)
+}
