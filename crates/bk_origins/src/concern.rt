@@ -40,13 +40,12 @@ fn dots(name: &[u8]) -> usize
 fn behind_dot(name: &[u8]) -> &[u8]
     ensures { result.now ≡ meant.behind_dot name.now }
 {
-    let [first, rest @ ..] = name else {
-        return &[];
-    };
-    if *first == b'.' {
-        return rest;
+    for index in 0..name.len() {
+        if name[index] == b'.' {
+            return &name[index + 1..];
+        }
     }
-    behind_dot(rest)
+    &[]
 }
 
 // The kind of what is named by a clause, CLAUSE.number.
