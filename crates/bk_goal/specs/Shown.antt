@@ -1,6 +1,6 @@
 -- Texts that show the sequents which rules leave open.
 use Rattle.std.specs.Prelude.{◌≡◌, ◌⊎◌, ◌+◌, ◌-◌, ℕ, suc, min, nat_lt, nat_eq, Bool, true, false, ◌||◌, not, cond}
-use Rattle.std.specs.Prelude.{List, [], ◌∷◌, ◌++◌, take, length, Option, Some, None, codes, decimal}
+use Rattle.std.specs.Prelude.{List, [], ◌∷◌, ◌++◌, take, drop, length, Option, Some, None, codes, decimal}
 use Rattle.bk_form.specs.Formula.{Formula}
 use Rattle.bk_form.specs.Table.{Table}
 use Rattle.bk_seq.specs.Sequents.{Sequent}
@@ -123,10 +123,14 @@ title name k rules = cond (nat_eq k 0)
 abbrev pub header : List ℕ → Found → ℕ → ℕ → List ℕ
 header name found k rules = title name k rules ++ place_of_rule found (numbered_item found.script.now.rules k) ++ codes "\n"
 
--- the line of a rule: its number, its place, and what is written there
-abbrev pub rule_line : Found → ℕ → RawRule → List ℕ → List ℕ
-rule_line found number rule written =
-    (codes "rule " ++ decimal number) ++ place_of_rule found (Some rule) ++ codes ": " ++ written ++ codes "\n"
+-- what is written there, so many bytes
+abbrev pub rule_text : Found → RawRule → ℕ → List ℕ
+rule_text found rule n = take n (drop rule.at found.text.now)
+
+-- the line of a rule: its number, its place, and so many bytes of what is written there
+abbrev pub rule_line : Found → ℕ → RawRule → ℕ → List ℕ
+rule_line found number rule n =
+    (codes "rule " ++ decimal number) ++ place_of_rule found (Some rule) ++ codes ": " ++ rule_text found rule n ++ codes "\n"
 
 -- words where a rule that is asked for does not fit, and none where it is not asked for
 abbrev pub TellsMisfit : Bool → List ℕ → Type 0
@@ -135,9 +139,9 @@ TellsMisfit false text = text ≡ []
 
 -- the rule behind the first k, of which so many are asked for
 pub record TellsRule (found : Found) (k asked : ℕ) (rule : RawRule) (text : List ℕ) : Type 0 where
-  pub written : List ℕ
+  pub length_written : ℕ
   pub misfit : List ℕ
-  pub line : text ≡ rule_line found (k + 1) rule written ++ misfit
+  pub line : text ≡ rule_line found (k + 1) rule length_written ++ misfit
   pub told : TellsMisfit (nat_lt k asked) misfit
 
 -- where no rule is left, with so many sequents

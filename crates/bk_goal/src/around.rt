@@ -1,6 +1,6 @@
 //! The lines around sequents.
 
-ghost use Rattle.std.specs.Prelude.{◌≡◌, ◌<◌, ℕ, List, Some, IfOk};
+ghost use Rattle.std.specs.Prelude.{◌≡◌, ◌<◌, ℕ, Some, IfOk};
 ghost use Rattle.std.specs.Option.{option_copied};
 ghost use Rattle.bk_seq.specs.Paths.{numbered_item};
 ghost use Rattle.bk_goal.specs.Shown as meant;
@@ -132,15 +132,22 @@ pub(crate) fn rule_line(
     number: usize,
     rule: &RawRule,
 ) -> Result<Vec<u8>, Memory>
-    ensures { IfOk result (λ text. (written : List ℕ) × (text.items ≡ meant.rule_line found.entry number rule.now written)) }
+    ensures { IfOk result (λ text. (n : ℕ) × (text.items ≡ meant.rule_line found.entry number rule.now n)) }
 {
     let place = place_text(alloc, found, rule)?;
     let mut text = count_text(alloc, b"rule ", number)?;
     text.extend_from_slice(&place)?;
     text.extend_from_slice(b": ")?;
-    text.extend_from_slice(rule_text(found.text, found.tokens, rule.at))?;
+    text.extend_from_slice(written_at(found, rule))?;
     text.extend_from_slice(b"\n")?;
     Ok(text)
+}
+
+// What is written at the rule.
+fn written_at<'a>(found: Found<'a>, rule: &RawRule) -> &'a [u8]
+    ensures { (n : ℕ) × (result.now ≡ meant.rule_text found.entry rule.now n) }
+{
+    rule_text(found.text, found.tokens, rule.at)
 }
 
 /// What stands behind the last rule, where so many sequents are left.

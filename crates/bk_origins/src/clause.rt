@@ -1,7 +1,6 @@
 //! The clauses of obligations, and the parts of their goals.
 
 use crate::component::{Begun, Component, Term};
-use crate::concern::Concern;
 use crate::leaf::{
     Leaf, What, box_leaves, condition_leaves, conjunct_leaves, diamond_leaves, joined,
 };
@@ -22,23 +21,6 @@ pub(crate) enum Clause {
     InitialisationDefined,
     Operation(usize),
     OperationDefined(usize),
-}
-
-impl Clause {
-    /// What kind of obligations it makes.
-    pub(crate) fn concern(self) -> Concern {
-        match self {
-            Clause::Initialisation => Concern::Initialisation,
-            Clause::Operation(_) => Concern::Operation,
-            Clause::Assertions => Concern::Assertion,
-            Clause::Values => Concern::Values,
-            Clause::PropertiesDefined
-            | Clause::InvariantDefined
-            | Clause::AssertionsDefined
-            | Clause::InitialisationDefined
-            | Clause::OperationDefined(_) => Concern::Definedness,
-        }
-    }
 }
 
 /// Where clauses stand: a development, its components as they are written, and the level of the clause.

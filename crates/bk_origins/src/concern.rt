@@ -1,5 +1,8 @@
 //! Kinds of obligations.
 
+ghost use Rattle.std.specs.Prelude.{◌≡◌};
+ghost use Rattle.bk_origins.specs.Concerns as meant;
+
 /// What kind of obligation it is, by its clause.
 #[derive(Clone, Copy, PartialEq, Eq, Debug)]
 pub enum Concern {
@@ -13,4 +16,51 @@ pub enum Concern {
     Definedness,
     /// Of no clause that is known.
     Other,
+}
+
+/// The kind of the obligation with this name.
+pub fn concern_of(name: &[u8]) -> Concern
+    ensures { result ≡ meant.concern_of name.now }
+{
+    match dots(name) {
+        2 => concern_by(behind_dot(name)),
+        3 => Concern::Definedness,
+        _ => Concern::Other,
+    }
+}
+
+// How many dots a name has.
+fn dots(name: &[u8]) -> usize
+    ensures { result ≡ meant.dots name.now }
+{
+    name.iter().filter(|byte| **byte == b'.').count()
+}
+
+// What stands behind the first one.
+fn behind_dot(name: &[u8]) -> &[u8]
+    ensures { result.now ≡ meant.behind_dot name.now }
+{
+    let [first, rest @ ..] = name else {
+        return &[];
+    };
+    if *first == b'.' {
+        return rest;
+    }
+    behind_dot(rest)
+}
+
+// The kind of what is named by a clause, CLAUSE.number.
+fn concern_by(clause: &[u8]) -> Concern
+    ensures { result ≡ meant.concern_by clause.now }
+{
+    if clause.starts_with(b"INITIALISATION.") {
+        return Concern::Initialisation;
+    }
+    if clause.starts_with(b"ASSERTIONS.") {
+        return Concern::Assertion;
+    }
+    if clause.starts_with(b"VALUES.") {
+        return Concern::Values;
+    }
+    Concern::Operation
 }

@@ -14,5 +14,5 @@ mod origin;
 mod words;
 
 pub use component::Component;
-pub use concern::Concern;
+pub use concern::{Concern, concern_of};
 pub use origin::{Origin, origins};

@@ -1,11 +1,12 @@
 //! The origins of obligations.
 
 ghost use Rattle.std.specs.Prelude.{◌≡◌, map, IfOk};
+ghost use Rattle.bk_origins.specs.Concerns as meant;
 
 use crate::asked::{Asked, clause_named, clauses_of, count_behind, place_among};
 use crate::clause::Site;
 use crate::component::Component;
-use crate::concern::Concern;
+use crate::concern::{Concern, concern_of};
 use crate::leaf::Leaf;
 use bk_dev::Development;
 use bk_io::{Memory, Text};
@@ -31,7 +32,8 @@ pub fn origins(
     components: &[Component<'_>],
     list: &[Obligation],
 ) -> Result<Vec<Origin>, Memory>
-    ensures { IfOk result (λ all. map (λ o. o.name) all.items ≡ map (λ o. o.name) list.now) }
+    ensures names { IfOk result (λ all. map (λ o. o.name) all.items ≡ map (λ o. o.name) list.now) }
+    ensures concerns { IfOk result (λ all. map (λ o. o.concern) all.items ≡ map (λ o. meant.concern_of o.name) list.now) }
 {
     let clauses = all_clauses(alloc, dev, components)?;
     let mut all = Vec::new(alloc);
@@ -71,12 +73,14 @@ fn origin_of(
     index: usize,
     obligation: &Obligation,
 ) -> Result<Origin, Memory>
-    ensures { IfOk result (λ o. o.name ≡ obligation.now.name) }
+    ensures name { IfOk result (λ o. o.name ≡ obligation.now.name) }
+    ensures concern { IfOk result (λ o. o.concern ≡ meant.concern_of obligation.now.name) }
 {
     let name = obligation.name.copy(alloc)?;
+    let concern = concern_of(obligation.name.as_bytes());
     let unknown = Origin {
         name,
-        concern: Concern::Other,
+        concern,
         words: Vec::new(alloc),
         component: 0,
         at: 0,
@@ -97,7 +101,7 @@ fn origin_of(
     let leaf = leaf_of(asked, list, index);
     Ok(Origin {
         name: unknown.name,
-        concern: asked.clause.concern(),
+        concern,
         words: site.words(asked.clause, leaf, &obligation.sequent.goal)?,
         component: asked.level,
         at: place_of(site, asked, leaf),

@@ -1,6 +1,7 @@
 //! Terms and names for the variables of a quantifier, and terms of a type.
 
 use crate::words::Words;
+use bk_arith::{ArithFault, cases};
 use bk_bind::free_in;
 use bk_form::{Form, Ty, TyView, View};
 use bk_io::Memory;
@@ -232,8 +233,10 @@ pub(crate) fn no_cases(
         words.no_hypothesis(sequent, number)?;
         return Ok(true);
     };
-    if bk_arith::cases(words.alloc, hypothesis).is_ok() {
-        return Ok(false);
+    match cases(words.alloc, hypothesis) {
+        Ok(_) => return Ok(false),
+        Err(ArithFault::Memory) => return Err(Memory),
+        Err(_) => {}
     }
     words.hypothesis(number)?;
     words.say(

@@ -1,6 +1,6 @@
 //! Where a rule ends.
 
-ghost use Rattle.std.specs.Prelude.{◌≡◌, ◌-◌, ◌<◌, ◌≤◌, [], take, drop, length};
+ghost use Rattle.std.specs.Prelude.{◌≡◌, ◌-◌, ◌<◌, ◌≤◌, ℕ, [], take, drop, length};
 
 use bk_form::Token;
 
@@ -23,18 +23,41 @@ pub fn rule_tokens(text: &[u8], tokens: &[Token], at: usize) -> (usize, usize) {
     (first, tokens.len())
 }
 
-/// The text of that rule.
-pub fn rule_text<'a>(text: &'a [u8], tokens: &[Token], at: usize) -> &'a [u8] {
-    let (first, behind) = rule_tokens(text, tokens, at);
-    let Some(last) = behind.checked_sub(1) else {
-        return &[];
+/// The text of that rule, which begins at the byte.
+pub fn rule_text<'a>(text: &'a [u8], tokens: &[Token], at: usize) -> &'a [u8]
+    ensures { (n : ℕ) × (result.now ≡ take n (drop at text.now)) }
+{
+    let (_, behind) = rule_tokens(text, tokens, at);
+    let end = end_before(tokens, behind);
+    front(behind_byte(text, at), end.saturating_sub(at))
+}
+
+// The byte behind the token before the one with this number; 0 where there is none.
+fn end_before(tokens: &[Token], number: usize) -> usize {
+    let Some(last) = number.checked_sub(1) else {
+        return 0;
     };
-    if first > last {
-        return &[];
-    }
     match tokens.get(last) {
-        Some(token) => part(text, at, token.end),
-        None => &[],
+        Some(token) => token.end,
+        None => 0,
+    }
+}
+
+// What stands from a byte on.
+fn behind_byte(text: &[u8], at: usize) -> &[u8]
+    ensures { result.now ≡ drop at text.now }
+{
+    if at < text.len() { &text[at..] } else { &[] }
+}
+
+// The first so many bytes.
+fn front(text: &[u8], count: usize) -> &[u8]
+    ensures { result.now ≡ take count text.now }
+{
+    if count < text.len() {
+        &text[..count]
+    } else {
+        text
     }
 }
 
