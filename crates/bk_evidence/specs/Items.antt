@@ -6,6 +6,7 @@ use Rattle.bk_status.specs.declared.state.State.{State}
 use Rattle.bk_status.specs.declared.table.Row.{Row}
 use Rattle.bk_status.specs.Rows.{is_settled}
 use Rattle.bk_report.specs.Table.{is_obvious_state, is_proved_state}
+use Rattle.bk_origins.specs.Concerns.{concern_of}
 use Rattle.bk_origins.specs.declared.concern.Concern.{Concern}
 use Rattle.bk_origins.specs.declared.concern.Concern.TheVariants.{Initialisation, Operation, Assertion, Values, Definedness, Other}
 use Rattle.bk_evidence.specs.declared.item.Item.{Item}
@@ -16,6 +17,14 @@ use Rattle.bk_evidence.specs.declared.sums.Sums.{Sums}
 -- the row of an item
 abbrev pub row_of : Item → Row
 row_of item = record { name = item.name; state = item.state }
+
+-- what kind of obligation it is
+abbrev pub kind_of : Item → Concern
+kind_of item = item.concern
+
+-- and what kind the obligation of a row is, by its name
+abbrev pub kind_of_row : Row → Concern
+kind_of_row row = concern_of row.name
 
 -- how many items are of such a state
 abbrev pub count_items : (State → Bool) → List Item → ℕ

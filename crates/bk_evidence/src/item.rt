@@ -3,10 +3,10 @@
 ghost use Rattle.std.specs.Prelude.{◌≡◌, ◌&&◌, ◌++◌, decimal, map, IfOk, OnOk};
 ghost use Rattle.bk_status.specs.Rows as meant;
 ghost use Rattle.bk_report.specs.Table.{state_text};
-ghost use Rattle.bk_evidence.specs.Items.{row_of};
+ghost use Rattle.bk_evidence.specs.Items.{row_of, kind_of, kind_of_row};
 
 use bk_io::{Memory, Text};
-use bk_origins::{Component, Concern, Origin};
+use bk_origins::{Component, Concern, Origin, concern_of};
 use bk_places::place_of;
 use bk_status::{Row, State};
 use itoa::Buffer;
@@ -74,7 +74,8 @@ pub fn items(
     components: &[Component<'_>],
     proofs: &[Proof],
 ) -> Result<Vec<Item>, Memory>
-    ensures { IfOk result (λ items. map row_of items.items ≡ rows.now) }
+    ensures rows { IfOk result (λ items. map row_of items.items ≡ rows.now) }
+    ensures kinds { IfOk result (λ items. map kind_of items.items ≡ map kind_of_row rows.now) }
 {
     let mut items = Vec::new(alloc);
     for (index, row) in rows.iter().enumerate() {
@@ -86,11 +87,11 @@ pub fn items(
 }
 
 fn item_of(alloc: Global, row: &Row, asked: Asked, proof: Proof) -> Result<Item, Memory>
-    ensures { IfOk result (λ i. row_of i ≡ row.now) }
+    ensures row { IfOk result (λ i. row_of i ≡ row.now) }
+    ensures kind { IfOk result (λ i. kind_of i ≡ kind_of_row row.now) }
 {
     let name = row.name.copy(alloc)?;
     let Asked {
-        concern,
         words,
         file,
         line,
@@ -100,7 +101,7 @@ fn item_of(alloc: Global, row: &Row, asked: Asked, proof: Proof) -> Result<Item,
     Ok(Item {
         name,
         state: row.state,
-        concern,
+        concern: concern_of(row.name.as_bytes()),
         words,
         file,
         line,
@@ -124,7 +125,6 @@ fn proof_of(alloc: Global, proof: Option<&Proof>) -> Result<Proof, Memory> {
 // What an obligation asks, and where it comes from.
 #[derive(Drop)]
 struct Asked {
-    concern: Concern,
     words: Text,
     file: Text,
     line: usize,
@@ -145,7 +145,6 @@ fn asked_of(
     };
     let place = place_of(component.text, origin.at);
     Ok(Asked {
-        concern: origin.concern,
         words,
         file: Text::from_bytes(Vec::from_slice(alloc, component.file)?),
         line: place.line,
@@ -155,7 +154,6 @@ fn asked_of(
 
 fn nothing_asked(alloc: Global) -> Asked {
     Asked {
-        concern: Concern::Other,
         words: Text::from_bytes(Vec::new(alloc)),
         file: Text::from_bytes(Vec::new(alloc)),
         line: 1,
