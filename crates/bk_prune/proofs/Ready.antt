@@ -1,9 +1,10 @@
 -- Obligations of a list, lists item by item, and what is answered where memory is wanting.
 use Rattle.std.proofs.Common.{◌≡◌, inl, ℕ, zero, suc, ◌+◌, ◌<◌, ◌≤◌, List, [], ◌∷◌, ◌++◌, map, take, length, get_or, refl, sym, ◌∙◌, ap, subst, arith, below_more, cond, Option, Some, None, Result, Ok, Err, IfOk}
-use Rattle.std.specs.Prelude.{Bool, true, false, ◌↔◌, find, All, IfSome, IfNone}
+use Rattle.std.specs.Prelude.{Bool, true, false, not, ◌↔◌, find, All, is_some, IfSome, IfNone}
 use Rattle.std.specs.List.{AllZip, remove, insert}
 use Rattle.std.specs.Global.{Vec}
 use Rattle.std.proofs.lemmas.List.{take_more, take_all}
+use Rattle.std.proofs.lemmas.Result.{IfOk-weaker}
 use Rattle.std.proofs.lemmas.Slice.Zip.{all_zipped_more, AllZip-long}
 use Rattle.bk_form.specs.Each.{Each}
 use Rattle.bk_form.specs.Table.{Table}
@@ -180,18 +181,14 @@ fewer (x ∷ xs) zero = omega arith
 fewer (x ∷ xs) (suc i) = let h = fewer xs i in omega arith
 
 -- ---- answers, or memory that is wanting
-pub ok_so : {A E : Type 0} (P Q : A → Type 0) (r : Result A E) → ((x : A) → P x → Q x) → IfOk r P → IfOk r Q
-ok_so P Q (Ok x) f h = f x h
-ok_so P Q (Err e) f h = h
-
 -- a text that stays
 pub kept_as_it_is : {E : Type 0} (dev : Development) (text : List ℕ) (r : Result (Vec ℕ) E) → IfOk r (λ t. t.items ≡ text) → IfOk r (λ t. IsPrunedFile dev text t.items)
-kept_as_it_is dev text r h = ok_so (λ t. t.items ≡ text) (λ t. IsPrunedFile dev text t.items) r (λ t e. inl e) h
+kept_as_it_is dev text r h = IfOk-weaker r (λ (t : Vec ℕ). t.items ≡ text) (λ (t : Vec ℕ). IsPrunedFile dev text t.items) (λ t e. inl e) h
 
 module _ {E : Type 0} (dev : Development) (list : List Obligation) (text : List ℕ) where
   -- what is counted of the scripts that the text has
   pub counted_of : (read : List RawScript) → ((scripts : List RawScript) → AreScriptsOf (text ∷ []) scripts → scripts ≡ read) → (r : Result ℕ E) → IfOk r (λ n. (n ≡ 0) ↔ All (IsFinished dev list) read) → IfOk r (CountsLeft dev list text)
-  counted_of read one r h = ok_so (λ n. (n ≡ 0) ↔ All (IsFinished dev list) read) (CountsLeft dev list text) r (λ n counts scripts reads. subst (λ ss. (n ≡ 0) ↔ All (IsFinished dev list) ss) (sym (one scripts reads)) counts) h
+  counted_of read one r h = IfOk-weaker r (λ (n : ℕ). (n ≡ 0) ↔ All (IsFinished dev list) read) (CountsLeft dev list text) (λ n counts scripts reads. subst (λ ss. (n ≡ 0) ↔ All (IsFinished dev list) ss) (sym (one scripts reads)) counts) h
 
 -- ---- open sequents, of which the first stands last
 module _ (P : Sequent → Type 0) (held others : List StoredSequent) (first : StoredSequent) (popped : held ≡ others ++ first ∷ []) (each : Each P (in_order held)) where
@@ -226,6 +223,16 @@ if_some_so P Q (Some k) f h = f k h
 pub if_none_so : (P Q : Type 0) (o : Option ℕ) → (P → Q) → IfNone o P → IfNone o Q
 if_none_so P Q None f h = f h
 if_none_so P Q (Some k) f h = tt
+
+-- nothing is found exactly where that is told
+pub none_needed : (N : Type 0) (o : Option ℕ) (b : Bool) → is_some o ≡ not b → IfNone o N → b ≡ true → N
+none_needed N None b e h yes = h
+none_needed N (Some k) b e h yes = let no : true ≡ false = e ∙ ap not yes in absurd (cc)
+
+pub needed_none : (P : ℕ → Type 0) (o : Option ℕ) (b : Bool) → is_some o ≡ not b → IfSome o P → ((k : ℕ) → P k → ⊥) → b ≡ true
+needed_none P None true e h n = refl
+needed_none P None false e h n = absurd (cc)
+needed_none P (Some k) b e h n = absurd (n k h)
 
 -- ---- states
 pub has_states : {E : Type 0} (dev : Development) (before : List RawScript) (text : List ℕ) (after : List RawScript) → AreScriptsOf (text ∷ []) after → (r : Result Bool E) → IfOk r (λ have. have ≡ true → AllZip IsNoLonger before after) → IfOk r (λ have. have ≡ true → HaveSameRows dev before after) → IfOk r (λ has. has ≡ true → HasStatesOf dev before text)

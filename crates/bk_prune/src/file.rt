@@ -87,11 +87,7 @@ fn same_text(alloc: Global, text: &[u8]) -> Result<Vec<u8>, Memory>
 }
 
 // The text without rules that can go.
-fn shorter_text(
-    proved: Proved<'_>,
-    text: &[u8],
-    scripts: &[RawScript],
-) -> Result<Vec<u8>, Memory>
+fn shorter_text(proved: Proved<'_>, text: &[u8], scripts: &[RawScript]) -> Result<Vec<u8>, Memory>
     requires ready { IsReady proved.dev.now proved.table.now proved.list.now }
     requires short { All IsShort scripts.now }
 {
@@ -173,11 +169,7 @@ fn leaner(proved: Proved<'_>, text: &[u8]) -> Result<Option<Vec<u8>>, Memory>
     }
 }
 
-fn leaner_script(
-    proved: Proved<'_>,
-    text: &[u8],
-    read: &Scripts,
-) -> Result<Option<Vec<u8>>, Memory>
+fn leaner_script(proved: Proved<'_>, text: &[u8], read: &Scripts) -> Result<Option<Vec<u8>>, Memory>
     requires { IsReady proved.dev.now proved.table.now proved.list.now }
 {
     read.facts();

@@ -85,10 +85,8 @@ fn needs_each(proved: Proved<'_>, script: &RawScript) -> Result<bool, Memory>
     ensures right { IfOk result (λ needs. needs ≡ true → NeedsEachRule proved.entry.dev.now proved.entry.list.now script.now) }
     ensures whole { IfOk result (λ needs. NeedsEachRule proved.entry.dev.now proved.entry.list.now script.now → needs ≡ true) }
 {
-    match spare_rule(proved, script)? {
-        Some(_) => Ok(false),
-        None => Ok(true),
-    }
+    let spare = spare_rule(proved, script)?;
+    Ok(spare.is_none())
 }
 
 /// How many rules stand before the first one that can be left out: the others derive what the script is for. None where it needs each.

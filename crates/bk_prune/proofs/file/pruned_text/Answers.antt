@@ -6,7 +6,7 @@ use Rattle.bk_prune.proofs.file.pruned_text.Goals as goal
 pub prune_scripts-requires : goal.prune_scripts-requires
 prune_scripts-requires c = record {
   ready = c.requires;
-  reads = some_so (AreScriptsOf (c.args.text.now ∷ [])) c.in_ok-scripts_of.field-0 c.in-Some.read c.in-Some.is c.in_ok-scripts_of.ensures.read;
+  reads = some_so (AreScriptsOf (c.args.text.now ∷ [])) c.in_ok-read.field-0 c.in-Some.read c.in-Some.is c.in_ok-read.ensures.read;
 }
 
 pub returns-in-None : goal.returns-in-None

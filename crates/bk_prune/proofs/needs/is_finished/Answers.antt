@@ -1,6 +1,6 @@
 use Rattle.std.proofs.Common.{◌≡◌, Bool, true, sym, ◌∙◌}
 use Rattle.bk_prune.specs.Pruned.{NeedsEachRule, IsFinished}
-use Rattle.bk_prune.proofs.Ready.{ok_so}
+use Rattle.std.proofs.lemmas.Result.{IfOk-weaker}
 use Rattle.bk_prune.proofs.needs.is_finished.Goals as goal
 
 pub returns-then-does : goal.returns-then-does
@@ -10,8 +10,8 @@ returns-then-does c =
     let script = c.args.script.now in
     let proved = c.in_ok-does.ensures.right c.if-does.true in
     record {
-      right = ok_so (λ (n : Bool). n ≡ true → NeedsEachRule dev list script) (λ (n : Bool). n ≡ true → IsFinished dev list script) c.needs_each.result (λ n h yes. record { proves = proved; needs = h yes }) c.needs_each.ensures.right;
-      whole = ok_so (λ (n : Bool). NeedsEachRule dev list script → n ≡ true) (λ (n : Bool). IsFinished dev list script → n ≡ true) c.needs_each.result (λ n h finished. h finished.needs) c.needs_each.ensures.whole;
+      right = IfOk-weaker c.needs_each.result (λ (n : Bool). n ≡ true → NeedsEachRule dev list script) (λ (n : Bool). n ≡ true → IsFinished dev list script) (λ n h yes. record { proves = proved; needs = h yes }) c.needs_each.ensures.right;
+      whole = IfOk-weaker c.needs_each.result (λ (n : Bool). NeedsEachRule dev list script → n ≡ true) (λ (n : Bool). IsFinished dev list script → n ≡ true) (λ n h finished. h finished.needs) c.needs_each.ensures.whole;
     }
 
 pub returns-clause-whole : goal.returns-clause-whole

@@ -1,4 +1,5 @@
 use Rattle.std.proofs.Common.{◌≡◌, ℕ, ◌<◌, ◌^◌, List, length, refl, sym, ◌∙◌, ap, subst, arith, below_more}
+use Rattle.std.specs.Prelude.{true, false}
 use Rattle.std.specs.List.{remove}
 use Rattle.bk_seq.specs.Sequents.{sequent_of}
 use Rattle.bk_kernel.specs.Derivations.{Derives}
@@ -21,9 +22,10 @@ close_without-requires c =
 pub returns-then-does-clause-some : goal.returns-then-does-clause-some
 returns-then-does-clause-some c =
     let l = c.loop-index in
-    let counted = c.total-count.ensures ∙ ap (λ (rs : List Rule). length rs) c.as_slice.ensures.value in
-    (subst (λ n. l.index < n) counted c.loop-index-test.true,
-    subst (λ rs. Derives c.args.table.now (remove rs l.index) (sequent_of c.args.sequent.now)) l.invariant.same (c.in_ok-does.ensures.right c.if-does.true))
+    let counted = c.total-count.ensures ∙ ap (λ (rs : List Rule). length rs) c.as_slice.ensures.value in (
+      subst (λ n. l.index < n) counted c.loop-index-test.true,
+      subst (λ rs. Derives c.args.table.now (remove rs l.index) (sequent_of c.args.sequent.now)) l.invariant.same (c.in_ok-does.ensures.right c.if-does.true),
+    )
 
 pub loop-index-preserved : goal.loop-index-preserved
 loop-index-preserved c =
@@ -35,9 +37,9 @@ loop-index-preserved c =
       same = c.in_ok-does.ensures.same ∙ l.invariant.same;
       none = λ k less. below_more (λ (m : ℕ). derives m → ⊥) l.index l.invariant.none
           (λ derived.
-              let yes = c.in_ok-does.ensures.whole (subst (λ rs. Derives c.args.table.now (remove rs l.index) s) (sym l.invariant.same) derived) in
-              let no = c.if-does.false in
-              cc)
+          let yes : c.in_ok-does.does ≡ true = c.in_ok-does.ensures.whole (subst (λ rs. Derives c.args.table.now (remove rs l.index) s) (sym l.invariant.same) derived) in
+          let no : true ≡ false = sym yes ∙ c.if-does.false in
+          cc)
           k less;
     }
 

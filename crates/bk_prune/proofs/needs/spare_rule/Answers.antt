@@ -1,10 +1,11 @@
 use Rattle.std.proofs.Common.{◌≡◌, ℕ, ◌<◌, List, length, Option, None}
 use Rattle.std.specs.Prelude.{IfSome, IfNone}
 use Rattle.std.specs.List.{remove}
+use Rattle.std.proofs.lemmas.Result.{IfOk-weaker}
 use Rattle.bk_seq.specs.Sequents.{sequent_of}
 use Rattle.bk_kernel.specs.Derivations.{Derives}
 use Rattle.bk_prune.specs.Pruned.{obligation_for, IsWork, ProvesWithout, NeedsEachRule}
-use Rattle.bk_prune.proofs.Ready.{closed_without, each_needed, needs_none, ok_so, if_some_so, if_none_so, some_so, none_so}
+use Rattle.bk_prune.proofs.Ready.{closed_without, each_needed, needs_none, if_some_so, if_none_so, some_so, none_so}
 use Rattle.bk_prune.proofs.needs.spare_rule.Goals as goal
 
 pub spare_among-requires : goal.spare_among-requires
@@ -31,8 +32,8 @@ returns c =
     let here = ProvesWithout dev list script in
     let needs = NeedsEachRule dev list script in
     record {
-      some = ok_so (λ (o : Option ℕ). IfSome o some) (λ (o : Option ℕ). IfSome o here) c.spare_among.result
+      some = IfOk-weaker c.spare_among.result (λ (o : Option ℕ). IfSome o some) (λ (o : Option ℕ). IfSome o here)
           (λ o h. if_some_so some here o (λ k both. closed_without dev list script work found k both.0 both.1) h) c.spare_among.ensures.some;
-      none = ok_so (λ (o : Option ℕ). IfNone o none) (λ (o : Option ℕ). IfNone o needs) c.spare_among.result
+      none = IfOk-weaker c.spare_among.result (λ (o : Option ℕ). IfNone o none) (λ (o : Option ℕ). IfNone o needs)
           (λ o h. if_none_so none needs o (each_needed dev list script work found) h) c.spare_among.ensures.none;
     }

@@ -1,8 +1,9 @@
 use Rattle.std.proofs.Common.{◌≡◌, ◌<◌, ◌^◌, Bool, true, None, length, sym, subst}
+use Rattle.std.proofs.lemmas.Result.{IfOk-weaker}
 use Rattle.bk_seq.specs.Sequents.{sequent_of}
 use Rattle.bk_kernel.specs.Derivations.{Derives}
 use Rattle.bk_prune.specs.Pruned.{obligation_for, IsWork, ProvesOne}
-use Rattle.bk_prune.proofs.Ready.{closed_proves, closed_where_proved, proves_none, ok_so, some_so, none_so}
+use Rattle.bk_prune.proofs.Ready.{closed_proves, closed_where_proved, proves_none, some_so, none_so}
 use Rattle.bk_prune.proofs.work.proves.Goals as goal
 
 pub closes-requires : goal.closes-requires
@@ -26,8 +27,8 @@ returns c =
     let own = sequent_of work.sequent in
     let rules = c.deref.result.now in
     record {
-      right = ok_so (λ (does : Bool). does ≡ true → Derives work.table rules own) (λ (does : Bool). does ≡ true → ProvesOne dev list script) c.closes.result
+      right = IfOk-weaker c.closes.result (λ (does : Bool). does ≡ true → Derives work.table rules own) (λ (does : Bool). does ≡ true → ProvesOne dev list script)
           (λ does h yes. closed_proves dev list script work found (subst (λ rs. Derives work.table rs own) held (h yes))) c.closes.ensures.right;
-      whole = ok_so (λ (does : Bool). Derives work.table rules own → does ≡ true) (λ (does : Bool). ProvesOne dev list script → does ≡ true) c.closes.result
+      whole = IfOk-weaker c.closes.result (λ (does : Bool). Derives work.table rules own → does ≡ true) (λ (does : Bool). ProvesOne dev list script → does ≡ true)
           (λ does h proved. h (subst (λ rs. Derives work.table rs own) (sym held) (closed_where_proved dev list script work found proved))) c.closes.ensures.whole;
     }
