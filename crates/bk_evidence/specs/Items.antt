@@ -18,14 +18,6 @@ use Rattle.bk_evidence.specs.declared.sums.Sums.{Sums}
 abbrev pub row_of : Item → Row
 row_of item = record { name = item.name; state = item.state }
 
--- what kind of obligation it is
-abbrev pub kind_of : Item → Concern
-kind_of item = item.concern
-
--- and what kind the obligation of a row is, by its name
-abbrev pub kind_of_row : Row → Concern
-kind_of_row row = concern_of row.name
-
 -- how many items are of such a state
 abbrev pub count_items : (State → Bool) → List Item → ℕ
 count_items is_such items = count_by (λ item. is_such item.state) items
@@ -50,14 +42,18 @@ is_same Definedness Definedness = true
 is_same Other Other = true
 is_same _ _ = false
 
+-- whether the obligation is of the kind, by its name
+abbrev pub is_of : Concern → Item → Bool
+is_of concern item = is_same concern (concern_of item.name)
+
 -- how many items of the kind are of such a state
 abbrev pub count_of : Concern → (State → Bool) → List Item → ℕ
-count_of concern is_such items = count_by (λ item. is_same concern item.concern && is_such item.state) items
+count_of concern is_such items = count_by (λ item. is_of concern item && is_such item.state) items
 
 -- the sums over those of the kind
 abbrev pub sums_with : Concern → List Item → Sums
 sums_with concern items = record {
-  obligations = count_by (λ item. is_same concern item.concern) items;
+  obligations = count_by (is_of concern) items;
   obvious = count_of concern is_obvious_state items;
   proved = count_of concern is_proved_state items;
   left = count_of concern (λ state. not (is_settled state)) items;

@@ -3,10 +3,10 @@
 ghost use Rattle.std.specs.Prelude.{◌≡◌, ◌&&◌, ◌++◌, decimal, map, IfOk, OnOk};
 ghost use Rattle.bk_status.specs.Rows as meant;
 ghost use Rattle.bk_report.specs.Table.{state_text};
-ghost use Rattle.bk_evidence.specs.Items.{row_of, kind_of, kind_of_row};
+ghost use Rattle.bk_evidence.specs.Items.{row_of};
 
 use bk_io::{Memory, Text};
-use bk_origins::{Component, Concern, Origin, concern_of};
+use bk_origins::{Component, Origin};
 use bk_places::place_of;
 use bk_status::{Row, State};
 use itoa::Buffer;
@@ -17,7 +17,6 @@ use std::alloc::{AllocError, Global};
 pub struct Item {
     pub name: Text,
     pub state: State,
-    pub concern: Concern,
     pub words: Text,
     /// The component's file, and the line and column in it.
     pub file: Text,
@@ -74,8 +73,7 @@ pub fn items(
     components: &[Component<'_>],
     proofs: &[Proof],
 ) -> Result<Vec<Item>, Memory>
-    ensures rows { IfOk result (λ items. map row_of items.items ≡ rows.now) }
-    ensures kinds { IfOk result (λ items. map kind_of items.items ≡ map kind_of_row rows.now) }
+    ensures { IfOk result (λ items. map row_of items.items ≡ rows.now) }
 {
     let mut items = Vec::new(alloc);
     for (index, row) in rows.iter().enumerate() {
@@ -87,8 +85,7 @@ pub fn items(
 }
 
 fn item_of(alloc: Global, row: &Row, asked: Asked, proof: Proof) -> Result<Item, Memory>
-    ensures row { IfOk result (λ i. row_of i ≡ row.now) }
-    ensures kind { IfOk result (λ i. kind_of i ≡ kind_of_row row.now) }
+    ensures { IfOk result (λ i. row_of i ≡ row.now) }
 {
     let name = row.name.copy(alloc)?;
     let Asked {
@@ -101,7 +98,6 @@ fn item_of(alloc: Global, row: &Row, asked: Asked, proof: Proof) -> Result<Item,
     Ok(Item {
         name,
         state: row.state,
-        concern: concern_of(row.name.as_bytes()),
         words,
         file,
         line,
