@@ -6,6 +6,7 @@ use Rattle.bk_status.specs.declared.state.State.{State}
 use Rattle.bk_status.specs.declared.table.Row.{Row}
 use Rattle.bk_status.specs.Rows.{is_settled}
 use Rattle.bk_report.specs.Table.{is_obvious_state, is_proved_state}
+use Rattle.bk_origins.specs.Concerns.{concern_of}
 use Rattle.bk_origins.specs.declared.concern.Concern.{Concern}
 use Rattle.bk_origins.specs.declared.concern.Concern.TheVariants.{Initialisation, Operation, Assertion, Values, Definedness, Other}
 use Rattle.bk_evidence.specs.declared.item.Item.{Item}
@@ -41,14 +42,18 @@ is_same Definedness Definedness = true
 is_same Other Other = true
 is_same _ _ = false
 
+-- whether the obligation is of the kind, by its name
+abbrev pub is_of : Concern → Item → Bool
+is_of concern item = is_same concern (concern_of item.name)
+
 -- how many items of the kind are of such a state
 abbrev pub count_of : Concern → (State → Bool) → List Item → ℕ
-count_of concern is_such items = count_by (λ item. is_same concern item.concern && is_such item.state) items
+count_of concern is_such items = count_by (λ item. is_of concern item && is_such item.state) items
 
 -- the sums over those of the kind
 abbrev pub sums_with : Concern → List Item → Sums
 sums_with concern items = record {
-  obligations = count_by (λ item. is_same concern item.concern) items;
+  obligations = count_by (is_of concern) items;
   obvious = count_of concern is_obvious_state items;
   proved = count_of concern is_proved_state items;
   left = count_of concern (λ state. not (is_settled state)) items;

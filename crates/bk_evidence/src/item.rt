@@ -6,7 +6,7 @@ ghost use Rattle.bk_report.specs.Table.{state_text};
 ghost use Rattle.bk_evidence.specs.Items.{row_of};
 
 use bk_io::{Memory, Text};
-use bk_origins::{Component, Concern, Origin};
+use bk_origins::{Component, Origin};
 use bk_places::place_of;
 use bk_status::{Row, State};
 use itoa::Buffer;
@@ -17,7 +17,6 @@ use std::alloc::{AllocError, Global};
 pub struct Item {
     pub name: Text,
     pub state: State,
-    pub concern: Concern,
     pub words: Text,
     /// The component's file, and the line and column in it.
     pub file: Text,
@@ -90,7 +89,6 @@ fn item_of(alloc: Global, row: &Row, asked: Asked, proof: Proof) -> Result<Item,
 {
     let name = row.name.copy(alloc)?;
     let Asked {
-        concern,
         words,
         file,
         line,
@@ -100,7 +98,6 @@ fn item_of(alloc: Global, row: &Row, asked: Asked, proof: Proof) -> Result<Item,
     Ok(Item {
         name,
         state: row.state,
-        concern,
         words,
         file,
         line,
@@ -124,7 +121,6 @@ fn proof_of(alloc: Global, proof: Option<&Proof>) -> Result<Proof, Memory> {
 // What an obligation asks, and where it comes from.
 #[derive(Drop)]
 struct Asked {
-    concern: Concern,
     words: Text,
     file: Text,
     line: usize,
@@ -145,7 +141,6 @@ fn asked_of(
     };
     let place = place_of(component.text, origin.at);
     Ok(Asked {
-        concern: origin.concern,
         words,
         file: Text::from_bytes(Vec::from_slice(alloc, component.file)?),
         line: place.line,
@@ -155,7 +150,6 @@ fn asked_of(
 
 fn nothing_asked(alloc: Global) -> Asked {
     Asked {
-        concern: Concern::Other,
         words: Text::from_bytes(Vec::new(alloc)),
         file: Text::from_bytes(Vec::new(alloc)),
         line: 1,

@@ -7,7 +7,7 @@ ghost use Rattle.bk_evidence.specs.Items as meant;
 ghost use Rattle.bk_evidence.specs.Items.{count_items, count_of, sums_over};
 
 use crate::item::{Item, is_settled};
-use bk_origins::Concern;
+use bk_origins::{Concern, concern_of};
 use bk_status::State;
 
 /// How many obligations there are, and how many are obvious, proved and neither.
@@ -62,12 +62,9 @@ pub fn sums_with(items: &[Item], concern: Concern) -> Sums
 }
 
 fn count_with(items: &[Item], concern: Concern) -> usize
-    ensures { result ≡ count_by (λ item. meant.is_same concern item.concern) items.now }
+    ensures { result ≡ count_by (meant.is_of concern) items.now }
 {
-    items
-        .iter()
-        .filter(|item| is_same(concern, item.concern))
-        .count()
+    items.iter().filter(|item| is_of(concern, item)).count()
 }
 
 fn obvious_with(items: &[Item], concern: Concern) -> usize
@@ -75,7 +72,7 @@ fn obvious_with(items: &[Item], concern: Concern) -> usize
 {
     items
         .iter()
-        .filter(|item| is_same(concern, item.concern) && is_obvious(item.state))
+        .filter(|item| is_of(concern, item) && is_obvious(item.state))
         .count()
 }
 
@@ -84,7 +81,7 @@ fn proved_with(items: &[Item], concern: Concern) -> usize
 {
     items
         .iter()
-        .filter(|item| is_same(concern, item.concern) && is_proved(item.state))
+        .filter(|item| is_of(concern, item) && is_proved(item.state))
         .count()
 }
 
@@ -93,8 +90,15 @@ fn left_with(items: &[Item], concern: Concern) -> usize
 {
     items
         .iter()
-        .filter(|item| is_same(concern, item.concern) && is_left(item.state))
+        .filter(|item| is_of(concern, item) && is_left(item.state))
         .count()
+}
+
+// Whether an obligation is of the kind, by its name.
+fn is_of(concern: Concern, item: &Item) -> bool
+    ensures { result ≡ meant.is_of concern item.now }
+{
+    is_same(concern, concern_of(item.name.as_bytes()))
 }
 
 fn is_same(one: Concern, other: Concern) -> bool

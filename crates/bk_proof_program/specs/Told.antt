@@ -6,6 +6,7 @@ use Rattle.bk_dev.specs.Development.{Development}
 use Rattle.bk_raw.specs.Trees.ScriptTree.{RawScript}
 use Rattle.bk_status.specs.Rows.{HasRows}
 use Rattle.bk_verbs.specs.Project.{ReadsProject}
+use Rattle.bk_evidence.specs.Html.{page_text}
 use Rattle.bk_evidence.specs.Items.{row_of, parts_of, parts_of_pair}
 use Rattle.bk_evidence.specs.Json.{items_data, report_data}
 use Rattle.bk_evidence.specs.Lines.{list_lines, report_lines}
@@ -23,11 +24,11 @@ WritesList true is_open_only items text =
     (written : List ℕ) × (text ≡ written ++ codes "\n") × (read written ≡ Some (items_data is_open_only items))
 WritesList false is_open_only items text = (more : List ℕ) × (text ≡ list_lines is_open_only items ++ more)
 
--- the report's lines, or a line of JSON that reads back as the report; of a page of HTML nothing is said
+-- the report's lines, a line of JSON that reads back as the report, or its page of HTML
 abbrev pub WritesReport : ReportForm → Report → List ℕ → Type 0
 WritesReport Text report text = text ≡ report_lines report
 WritesReport Json report text = (written : List ℕ) × (text ≡ written ++ codes "\n") × (read written ≡ Some (report_data report))
-WritesReport Html report text = Unit {0}
+WritesReport Html report text = text ≡ page_text report
 
 -- ---- of the project that the files tell
 -- the items are the rows of the status table of what the files tell

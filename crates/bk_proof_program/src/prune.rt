@@ -42,7 +42,7 @@ pub(crate) fn prune_answer<H: Shelf>(
     };
     let dev = &whole.project.development;
     let pruned = prune_file(alloc, dev, &whole.table, &whole.list, &proofs.text)?;
-    Ok((pruned.text, status_of(pruned.unproved)))
+    Ok((pruned.text, status_of(pruned.left)))
 }
 
 // The first file with a name.
@@ -52,11 +52,11 @@ fn file_named<'a>(files: &'a [NamedText], name: &[u8]) -> Option<&'a NamedText>
     files.iter().find(|file| name == file.name.as_bytes())
 }
 
-fn status_of(unproved: usize) -> Status
-    ensures value { result ≡ meant.status_with unproved }
+fn status_of(left: usize) -> Status
+    ensures value { result ≡ meant.status_with left }
     ensures ends { IsEnd result }
 {
-    if unproved == 0 {
+    if left == 0 {
         Status::Done
     } else {
         Status::Unproved

@@ -1,9 +1,11 @@
 -- Obligations of a list, lists item by item, and what is answered where memory is wanting.
 use Rattle.std.proofs.Common.{◌≡◌, inl, ℕ, zero, suc, ◌+◌, ◌<◌, ◌≤◌, List, [], ◌∷◌, ◌++◌, map, take, length, get_or, refl, sym, ◌∙◌, ap, subst, arith, below_more, cond, Option, Some, None, Result, Ok, Err, IfOk}
-use Rattle.std.specs.Prelude.{Bool, true, false, ◌↔◌, find, All, IfSome, IfNone}
-use Rattle.std.specs.List.{AllZip}
+use Rattle.std.specs.Prelude.{Bool, true, false, not, ◌↔◌, find, All, is_some, IfSome, IfNone}
+use Rattle.std.specs.List.{AllZip, remove, insert}
+use Rattle.std.specs.Global.{Vec}
 use Rattle.std.proofs.lemmas.List.{take_more, take_all}
-use Rattle.std.proofs.lemmas.Slice.Zip.{all_zipped_more}
+use Rattle.std.proofs.lemmas.Result.{IfOk-weaker}
+use Rattle.std.proofs.lemmas.Slice.Zip.{all_zipped_more, AllZip-long}
 use Rattle.bk_form.specs.Each.{Each}
 use Rattle.bk_form.specs.Table.{Table}
 use Rattle.bk_dev.specs.Development.{Development}
@@ -29,8 +31,7 @@ use Rattle.bk_scripts.proofs.Alike.{grounded_are_alike}
 use Rattle.bk_status.specs.Replayable.{IsReplayable}
 use Rattle.bk_status.specs.Rows.{HasRows}
 use Rattle.bk_status.specs.declared.table.Row.{Row}
-use Rattle.bk_prune.specs.Pruned.{IsNoLonger, HaveSameRows, HasStatesOf, IsPrunedFile, obligation_for, IsWork, ProvesOne, CountsUnproved}
-use Rattle.bk_prune.specs.declared.file.Pruned.{Pruned}
+use Rattle.bk_prune.specs.Pruned.{IsNoLonger, HaveSameRows, HasStatesOf, IsPrunedFile, obligation_for, IsWork, ProvesOne, ProvesWithout, NeedsEachRule, IsFinished, CountsLeft}
 use Rattle.bk_prune.specs.declared.work.Work.{Work}
 
 -- what holds of each holds of the one that is found
@@ -67,6 +68,14 @@ all-like a (w ∷ ws) [] qs h k = absurd h
 all-like a (w ∷ ws) (r ∷ rs) [] h k = absurd k
 all-like a (w ∷ ws) (r ∷ rs) (q ∷ qs) h k = (grounded_are_alike a w r q h.0 k.0, all-like a ws rs qs h.1 k.1)
 
+like-without : (rs qs : List Rule) (k : ℕ) → AllZip IsLike rs qs → AllZip IsLike (remove rs k) (remove qs k)
+like-without [] [] zero h = tt
+like-without [] [] (suc k) h = tt
+like-without [] (q ∷ qs) k h = absurd h
+like-without (r ∷ rs) [] k h = absurd h
+like-without (r ∷ rs) (q ∷ qs) zero h = h.1
+like-without (r ∷ rs) (q ∷ qs) (suc k) h = (h.0, like-without rs qs k h.1)
+
 module _ (table : Table) where
   instance-like : (r q : Rule) (s : Sequent) (news : List Sequent) → IsLike r q → IsInstance table s r news → IsInstance table s q news
   instance-like r q s news h k = record { made = sym (h table s) ∙ k.made; type = k.type; within = k.within }
@@ -85,6 +94,26 @@ derives-too dev script rules others wide table s g h d =
     let there : Derives table rules s = subst (λ t. Derives t rules s) (g.widens ∙ sym h.widens) d in
     leaves-like table (s ∷ []) rules others [] like there
 
+-- and so without one of them
+derives-without : (dev : Development) (script : RawScript) (rules others : List Rule) (wide table : Table) (s : Sequent) (k : ℕ) → IsGrounded dev script rules wide → IsGrounded dev script others table → Derives wide (remove rules k) s → Derives table (remove others k) s
+derives-without dev script rules others wide table s k g h d =
+    let like = all-like (around_script dev.table dev script) script.rules rules others g.each h.each in
+    let there : Derives table (remove rules k) s = subst (λ t. Derives t (remove rules k) s) (g.widens ∙ sym h.widens) d in
+    leaves-like table (s ∷ []) (remove rules k) (remove others k) [] (like-without rules others k like) there
+
+-- as many rules as are written
+all-counted : (dev : Development) (script : RawScript) (rules others : List Rule) (wide table : Table) → IsGrounded dev script rules wide → IsGrounded dev script others table → length rules ≡ length others
+all-counted dev script rules others wide table g h =
+    let around = around_script dev.table dev script in
+    AllZip-long (StandsFor around) script.rules rules g.each ∙ sym (AllZip-long (StandsFor around) script.rules others h.each)
+
+-- what is said of rules on a sequent that is the same
+pub closed_is : (table : Table) (rules : List Rule) (s own : Sequent) (v : Verdict) → own ≡ s → IsVerdict table rules own v → v ≡ Closed → Derives table rules s
+closed_is table rules s own v e h closed = let derived : Derives table rules own = subst (IsVerdict table rules own) closed h in subst (Derives table rules) e derived
+
+pub is_closed_so : (table : Table) (rules : List Rule) (s own : Sequent) (v : Verdict) → own ≡ s → IsVerdict table rules own v → Derives table rules s → v ≡ Closed
+is_closed_so table rules s own v e h d = one-verdict table rules own v Closed h (subst (Derives table rules) (sym e) d)
+
 -- ---- scripts that prove
 one-obligation : (a b : Obligation) → Some a ≡ Some b → a ≡ b
 one-obligation a b h = cc
@@ -93,47 +122,73 @@ one-obligation a b h = cc
 pub proves_none : (dev : Development) (list : List Obligation) (script : RawScript) → obligation_for list script ≡ None → ProvesOne dev list script → ⊥
 proves_none dev list script none p = let e : None ≡ Some p.obligation = sym none ∙ p.is_for in cc
 
--- the rules that close a sequent prove
-pub closed_proves : (dev : Development) (list : List Obligation) (script : RawScript) (work : Work) (verdict : Verdict) → IsWork dev list script work → IsVerdict work.table work.rules.items (sequent_of work.sequent) verdict → verdict ≡ Closed → ProvesOne dev list script
-closed_proves dev list script work verdict w h e =
-    let closed = subst (IsVerdict work.table work.rules.items (sequent_of work.sequent)) e h in
-    record {
-      obligation = w.obligation;
-      is_for = w.is_for;
-      rules = work.rules.items;
-      table = work.table;
-      grounded = w.grounded;
-      derives = subst (Derives work.table work.rules.items) w.own closed;
-    }
+module _ (dev : Development) (list : List Obligation) (script : RawScript) (work : Work) (w : IsWork dev list script work) where
+  -- the obligation that is found is the one that the rules are replayed on
+  own-sequent : (o : Obligation) → obligation_for list script ≡ Some o → sequent_of o.sequent ≡ sequent_of work.sequent
+  own-sequent o is_for =
+      let same = one-obligation o w.obligation (sym is_for ∙ w.is_for) in
+      ap (λ (o : Obligation). sequent_of o.sequent) same ∙ sym w.own
 
--- and where the script proves they close it
-pub closed_where_proved : (dev : Development) (list : List Obligation) (script : RawScript) (work : Work) (verdict : Verdict) → IsWork dev list script work → IsVerdict work.table work.rules.items (sequent_of work.sequent) verdict → ProvesOne dev list script → verdict ≡ Closed
-closed_where_proved dev list script work verdict w h p =
-    let same = one-obligation p.obligation w.obligation (sym p.is_for ∙ w.is_for) in
-    let own : sequent_of p.obligation.sequent ≡ sequent_of work.sequent = ap (λ (o : Obligation). sequent_of o.sequent) same ∙ sym w.own in
-    let derived = derives-too (flattened dev) script p.rules work.rules.items p.table work.table (sequent_of p.obligation.sequent) p.grounded w.grounded p.derives in
-    let here : Derives work.table work.rules.items (sequent_of work.sequent) = subst (Derives work.table work.rules.items) own derived in
-    one-verdict work.table work.rules.items (sequent_of work.sequent) verdict Closed h here
+  -- rules that derive its sequent prove
+  pub closed_proves : Derives work.table work.rules.items (sequent_of work.sequent) → ProvesOne dev list script
+  closed_proves closed = record {
+    obligation = w.obligation;
+    is_for = w.is_for;
+    rules = work.rules.items;
+    table = work.table;
+    grounded = w.grounded;
+    derives = subst (Derives work.table work.rules.items) w.own closed;
+  }
 
--- a text that stays, or memory that is wanting
-pub kept_as_it_is : {E : Type 0} (dev : Development) (text : List ℕ) (r : Result Pruned E) → IfOk r (λ p. p.text.items ≡ text) → IfOk r (λ p. IsPrunedFile dev text p.text.items)
-kept_as_it_is dev text (Ok p) h = inl h
-kept_as_it_is dev text (Err e) h = h
+  -- and where the script proves they derive it
+  pub closed_where_proved : ProvesOne dev list script → Derives work.table work.rules.items (sequent_of work.sequent)
+  closed_where_proved p =
+      let derived = derives-too (flattened dev) script p.rules work.rules.items p.table work.table (sequent_of p.obligation.sequent) p.grounded w.grounded p.derives in
+      subst (Derives work.table work.rules.items) (own-sequent p.obligation p.is_for) derived
 
-pub counted_so : {E : Type 0} (Q : Type 0) (n : ℕ) (r : Result Pruned E) → IfOk r (λ p. p.unproved ≡ n) → (n ≡ 0) ↔ Q → IfOk r (λ p. (p.unproved ≡ 0) ↔ Q)
-counted_so Q n (Ok p) h q = (λ none. q.0 (sym h ∙ none), λ x. h ∙ q.1 x)
-counted_so Q n (Err e) h q = h
+  -- the same of all rules but one
+  pub closed_without : (k : ℕ) → k < length work.rules.items → Derives work.table (remove work.rules.items k) (sequent_of work.sequent) → ProvesWithout dev list script k
+  closed_without k within closed = record {
+    obligation = w.obligation;
+    is_for = w.is_for;
+    rules = work.rules.items;
+    table = work.table;
+    grounded = w.grounded;
+    within = within;
+    derives = subst (Derives work.table (remove work.rules.items k)) w.own closed;
+  }
+
+  pub each_needed : ((k : ℕ) → k < length work.rules.items → Derives work.table (remove work.rules.items k) (sequent_of work.sequent) → ⊥) → NeedsEachRule dev list script
+  each_needed none k p =
+      let counted = all-counted (flattened dev) script p.rules work.rules.items p.table work.table p.grounded w.grounded in
+      let derived = derives-without (flattened dev) script p.rules work.rules.items p.table work.table (sequent_of p.obligation.sequent) k p.grounded w.grounded p.derives in
+      none k (subst (λ n. k < n) counted p.within) (subst (Derives work.table (remove work.rules.items k)) (own-sequent p.obligation p.is_for) derived)
+
+-- a script for no obligation has no rule that can be left out
+pub needs_none : (dev : Development) (list : List Obligation) (script : RawScript) → obligation_for list script ≡ None → NeedsEachRule dev list script
+needs_none dev list script none k p = let e : None ≡ Some p.obligation = sym none ∙ p.is_for in cc
+
+-- ---- rules of which one is taken out and put back
+pub put_back : {X : Type 0} (xs : List X) (i : ℕ) (x : X) → i < length xs → x ≡ get_or xs i x → insert (remove xs i) i x ≡ xs
+put_back [] i x l e = absurd (omega arith)
+put_back (y ∷ ys) zero x l e = ap (λ z. z ∷ ys) e
+put_back (y ∷ ys) (suc i) x l e = ap (λ zs. y ∷ zs) (put_back ys i x (omega arith) e)
+
+pub fewer : {X : Type 0} (xs : List X) (i : ℕ) → length (remove xs i) ≤ length xs
+fewer [] zero = omega arith
+fewer [] (suc i) = omega arith
+fewer (x ∷ xs) zero = omega arith
+fewer (x ∷ xs) (suc i) = let h = fewer xs i in omega arith
+
+-- ---- answers, or memory that is wanting
+-- a text that stays
+pub kept_as_it_is : {E : Type 0} (dev : Development) (text : List ℕ) (r : Result (Vec ℕ) E) → IfOk r (λ t. t.items ≡ text) → IfOk r (λ t. IsPrunedFile dev text t.items)
+kept_as_it_is dev text r h = IfOk-weaker r (λ (t : Vec ℕ). t.items ≡ text) (λ (t : Vec ℕ). IsPrunedFile dev text t.items) (λ t e. inl e) h
 
 module _ {E : Type 0} (dev : Development) (list : List Obligation) (text : List ℕ) where
   -- what is counted of the scripts that the text has
-  pub counted_of : (read : List RawScript) → ((before : List RawScript) → AreScriptsOf (text ∷ []) before → before ≡ read) → (r : Result Pruned E) → IfOk r (λ p. (p.unproved ≡ 0) ↔ All (ProvesOne dev list) read) → IfOk r (λ p. CountsUnproved dev list text p.unproved)
-  counted_of read one (Ok p) h = λ before reads. subst (λ ss. (p.unproved ≡ 0) ↔ All (ProvesOne dev list) ss) (sym (one before reads)) h
-  counted_of read one (Err e) h = h
-
-  -- and where it has none
-  pub counted_of_none : ((before : List RawScript) → AreScriptsOf (text ∷ []) before → ⊥) → (r : Result Pruned E) → IfOk r (λ p. CountsUnproved dev list text p.unproved)
-  counted_of_none none (Ok p) = λ before reads. absurd (none before reads)
-  counted_of_none none (Err e) = tt
+  pub counted_of : (read : List RawScript) → ((scripts : List RawScript) → AreScriptsOf (text ∷ []) scripts → scripts ≡ read) → (r : Result ℕ E) → IfOk r (λ n. (n ≡ 0) ↔ All (IsFinished dev list) read) → IfOk r (CountsLeft dev list text)
+  counted_of read one r h = IfOk-weaker r (λ (n : ℕ). (n ≡ 0) ↔ All (IsFinished dev list) read) (CountsLeft dev list text) (λ n counts scripts reads. subst (λ ss. (n ≡ 0) ↔ All (IsFinished dev list) ss) (sym (one scripts reads)) counts) h
 
 -- ---- open sequents, of which the first stands last
 module _ (P : Sequent → Type 0) (held others : List StoredSequent) (first : StoredSequent) (popped : held ≡ others ++ first ∷ []) (each : Each P (in_order held)) where
@@ -160,6 +215,24 @@ some_so P o x e h = subst (λ p. IfSome p P) e h
 
 pub none_so : {A : Type 0} (Q : Type 0) (o : Option A) → o ≡ None → IfNone o Q → Q
 none_so Q o e h = subst (λ p. IfNone p Q) e h
+
+pub if_some_so : (P Q : ℕ → Type 0) (o : Option ℕ) → ((k : ℕ) → P k → Q k) → IfSome o P → IfSome o Q
+if_some_so P Q None f h = tt
+if_some_so P Q (Some k) f h = f k h
+
+pub if_none_so : (P Q : Type 0) (o : Option ℕ) → (P → Q) → IfNone o P → IfNone o Q
+if_none_so P Q None f h = f h
+if_none_so P Q (Some k) f h = tt
+
+-- nothing is found exactly where that is told
+pub none_needed : (N : Type 0) (o : Option ℕ) (b : Bool) → is_some o ≡ not b → IfNone o N → b ≡ true → N
+none_needed N None b e h yes = h
+none_needed N (Some k) b e h yes = let no : true ≡ false = e ∙ ap not yes in absurd (cc)
+
+pub needed_none : (P : ℕ → Type 0) (o : Option ℕ) (b : Bool) → is_some o ≡ not b → IfSome o P → ((k : ℕ) → P k → ⊥) → b ≡ true
+needed_none P None true e h n = refl
+needed_none P None false e h n = absurd (cc)
+needed_none P (Some k) b e h n = absurd (n k h)
 
 -- ---- states
 pub has_states : {E : Type 0} (dev : Development) (before : List RawScript) (text : List ℕ) (after : List RawScript) → AreScriptsOf (text ∷ []) after → (r : Result Bool E) → IfOk r (λ have. have ≡ true → AllZip IsNoLonger before after) → IfOk r (λ have. have ≡ true → HaveSameRows dev before after) → IfOk r (λ has. has ≡ true → HasStatesOf dev before text)

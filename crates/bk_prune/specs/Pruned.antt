@@ -1,6 +1,6 @@
 -- Proof files that have lost rules, and prove what they proved.
 use Rattle.std.specs.Prelude.{◌≡◌, ◌⊎◌, ◌↔◌, ◌<◌, ◌≤◌, ◌^◌, ℕ, List, [], ◌∷◌, length, map, find, All, Option, Some}
-use Rattle.std.specs.List.{AllZip}
+use Rattle.std.specs.List.{AllZip, remove}
 use Rattle.std.specs.Str.{bytes_eq}
 use Rattle.bk_form.specs.Table.{Table}
 use Rattle.bk_form.specs.Each.{Each}
@@ -59,10 +59,30 @@ pub record ProvesOne (dev : Development) (list : List Obligation) (script : RawS
   pub grounded : IsGrounded (flattened dev) script rules table
   pub derives : Derives table rules (sequent_of obligation.sequent)
 
--- none of a text's scripts is told to prove nothing exactly where each proves its obligation of the list
-abbrev pub CountsUnproved : Development → List Obligation → List ℕ → ℕ → Type 0
-CountsUnproved dev list text unproved =
-    (before : List RawScript) → AreScriptsOf (text ∷ []) before → (unproved ≡ 0) ↔ All (ProvesOne dev list) before
+-- ---- scripts that need each of their rules
+-- without one rule, the one behind the first k, those that the script stands for derive its sequent
+pub record ProvesWithout (dev : Development) (list : List Obligation) (script : RawScript) (k : ℕ) : Type 0 where
+  pub obligation : Obligation
+  pub is_for : obligation_for list script ≡ Some obligation
+  pub rules : List Rule
+  pub table : Table
+  pub grounded : IsGrounded (flattened dev) script rules table
+  pub within : k < length rules
+  pub derives : Derives table (remove rules k) (sequent_of obligation.sequent)
+
+-- none of its rules can be left out where the others stay as they are
+abbrev pub NeedsEachRule : Development → List Obligation → RawScript → Type 0
+NeedsEachRule dev list script = (k : ℕ) → ProvesWithout dev list script k → ⊥
+
+-- it proves, and needs each rule for that
+pub record IsFinished (dev : Development) (list : List Obligation) (script : RawScript) : Type 0 where
+  pub proves : ProvesOne dev list script
+  pub needs : NeedsEachRule dev list script
+
+-- none of a text's scripts is counted exactly where each proves its obligation of the list and needs each of its rules for that
+abbrev pub CountsLeft : Development → List Obligation → List ℕ → ℕ → Type 0
+CountsLeft dev list text left =
+    (scripts : List RawScript) → AreScriptsOf (text ∷ []) scripts → (left ≡ 0) ↔ All (IsFinished dev list) scripts
 
 -- ---- what a plan is made of
 -- the table of a development's obligations, and obligations on which rules are replayed

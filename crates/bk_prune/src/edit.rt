@@ -34,7 +34,7 @@ pub(crate) fn edits(
                     return Ok(None);
                 }
             }
-            _ if index < tail => edits.push(removal(tokens, range))?,
+            _ if index < tail => edits.push(cut(tokens, range))?,
             _ => {}
         }
     }
@@ -56,7 +56,7 @@ fn tail_of(script: &RawScript, numberings: &[Option<Numbers>]) -> usize {
 }
 
 // A rule goes, and the semicolon behind it.
-fn removal(tokens: &[Token], range: (usize, usize)) -> Edit {
+fn cut(tokens: &[Token], range: (usize, usize)) -> Edit {
     let (first, behind) = range;
     Edit {
         start: start_of(tokens, first),
@@ -76,6 +76,20 @@ fn tail_removal(text: &[u8], tokens: &[Token], script: &RawScript, tail: usize) 
         end: end_of(tokens, behind.checked_sub(1)?),
         number: None,
     })
+}
+
+/// The change by which one rule of a script goes.
+pub(crate) fn removal(
+    text: &[u8],
+    tokens: &[Token],
+    script: &RawScript,
+    index: usize,
+) -> Option<Edit> {
+    let rule = script.rules.get(index)?;
+    if script.rules.get(index.saturating_add(1)).is_none() {
+        return tail_removal(text, tokens, script, index);
+    }
+    Some(cut(tokens, rule_tokens(text, tokens, rule.at)))
 }
 
 fn start_of(tokens: &[Token], index: usize) -> usize {

@@ -1,10 +1,11 @@
 //! Proof files without rules that nothing uses.
 
-ghost use Rattle.std.specs.Prelude.{◌≡◌, ◌↔◌, true, [], ◌∷◌, All, IfOk};
+ghost use Rattle.std.specs.Prelude.{◌≡◌, [], ◌∷◌, All, IfOk};
 ghost use Rattle.bk_p_proof.specs.Files.{AreScriptsOf, IsShort};
-ghost use Rattle.bk_prune.specs.Pruned.{IsPrunedFile, CountsUnproved, IsReady, ProvesOne};
+ghost use Rattle.bk_prune.specs.Pruned.{IsPrunedFile, CountsLeft, IsReady};
 
-use crate::edit::{Edit, edits};
+use crate::edit::{Edit, edits, removal};
+use crate::needs::{left_count, spare_rule};
 use crate::numbering::numberings;
 use crate::plan::fates;
 use crate::states::{has_states_of, scripts_of};
@@ -15,23 +16,22 @@ use bk_form::{Token, VarTable};
 use bk_io::Memory;
 use bk_lex::{LexFault, tokens};
 use bk_p_proof::Scripts;
-use bk_p_proof::laws::scripts_are_one;
 use bk_po::Obligation;
 use bk_raw::RawScript;
 use bk_rule_texts::part;
 use itoa::Buffer;
 use std::alloc::Global;
 
-/// A proof file, how many rules it has lost, and how many scripts of the old one prove nothing.
+/// A proof file, and how many of its scripts do not prove, or have a rule that can be left out.
 #[derive(Drop)]
 pub struct Pruned {
     pub text: Vec<u8>,
-    pub gone: usize,
-    pub unproved: usize,
+    pub left: usize,
 }
 
 /// The proof file without rules whose results nothing uses: what scripts proved they prove still, since the new text was read and
-/// replayed. A script that proves no obligation stays as it is, and so does a text that is no proof file.
+/// replayed; and it was replayed without each of its rules, to count the scripts that do not need all. A script that proves no
+/// obligation stays as it is, and so does a text that is no proof file.
 pub fn prune_file(
     alloc: Global,
     dev: &Development,
@@ -41,102 +41,67 @@ pub fn prune_file(
 ) -> Result<Pruned, Memory>
     requires { IsReady dev.now table.now list.now }
     ensures kept { IfOk result (λ p. IsPrunedFile dev.now text.now p.text.items) }
-    ensures counted { IfOk result (λ p. CountsUnproved dev.now list.now text.now p.unproved) }
+    ensures counted { IfOk result (λ p. CountsLeft dev.now list.now p.text.items p.left) }
 {
-    scripts_are_one();
     let proved = Proved {
         alloc,
         dev,
         table,
         list,
     };
-    match scripts_of(alloc, text)? {
+    let pruned = pruned_text(proved, text)?;
+    let left = left_count(proved, &pruned)?;
+    Ok(Pruned { text: pruned, left })
+}
+
+// The text without rules that can go; the text itself where it has no scripts.
+fn pruned_text(proved: Proved<'_>, text: &[u8]) -> Result<Vec<u8>, Memory>
+    requires { IsReady proved.dev.now proved.table.now proved.list.now }
+    ensures { IfOk result (λ t. IsPrunedFile proved.entry.dev.now text.now t.items) }
+{
+    match scripts_of(proved.alloc, text)? {
         Some(read) => prune_scripts(proved, text, &read),
-        None => unchanged(alloc, text, 0),
+        None => same_text(proved.alloc, text),
     }
 }
 
-// The text of these scripts without rules whose results nothing uses.
-fn prune_scripts(proved: Proved<'_>, text: &[u8], read: &Scripts) -> Result<Pruned, Memory>
+// The text of these scripts without rules that can go; the text itself where the shorter one does not prove what it proves.
+fn prune_scripts(proved: Proved<'_>, text: &[u8], read: &Scripts) -> Result<Vec<u8>, Memory>
     requires ready { IsReady proved.dev.now proved.table.now proved.list.now }
     requires reads { AreScriptsOf (text.now ∷ []) read.now }
-    ensures kept { IfOk result (λ p. IsPrunedFile proved.entry.dev.now text.now p.text.items) }
-    ensures counted { IfOk result (λ p. (p.unproved ≡ 0) ↔ All (ProvesOne proved.entry.dev.now proved.entry.list.now) read.now) }
+    ensures { IfOk result (λ t. IsPrunedFile proved.entry.dev.now text.now t.items) }
 {
     read.facts();
-    let scripts = read.all();
-    let unproved = unproved_count(proved, scripts)?;
-    let (shorter, gone) = shorter_text(proved, text, scripts)?;
+    let shorter = shorter_text(proved, text, read.all())?;
     let is_kept = has_states_of(proved.alloc, proved.dev, read, &shorter)?;
     if is_kept {
-        return Ok(Pruned {
-            text: shorter,
-            gone,
-            unproved,
-        });
+        return Ok(shorter);
     }
-    unchanged(proved.alloc, text, unproved)
+    same_text(proved.alloc, text)
 }
 
-fn unchanged(alloc: Global, text: &[u8], unproved: usize) -> Result<Pruned, Memory>
-    ensures same { IfOk result (λ p. p.text.items ≡ text.now) }
-    ensures counted { IfOk result (λ p. p.unproved ≡ unproved) }
+fn same_text(alloc: Global, text: &[u8]) -> Result<Vec<u8>, Memory>
+    ensures { IfOk result (λ t. t.items ≡ text.now) }
 {
-    Ok(Pruned {
-        text: Vec::from_slice(alloc, text)?,
-        gone: 0,
-        unproved,
-    })
+    Ok(Vec::from_slice(alloc, text)?)
 }
 
-// How many scripts prove nothing.
-fn unproved_count(proved: Proved<'_>, scripts: &[RawScript]) -> Result<usize, Memory>
-    requires ready { IsReady proved.dev.now proved.table.now proved.list.now }
-    requires short { All IsShort scripts.now }
-    ensures { IfOk result (λ count. (count ≡ 0) ↔ All (ProvesOne proved.entry.dev.now proved.entry.list.now) scripts.now) }
-{
-    let mut count = 0usize;
-    for script in scripts {
-        count = count_with(count, proves(proved, script)?);
-    }
-    Ok(count)
-}
-
-// A count, and one more where something does not prove.
-fn count_with(count: usize, proves: bool) -> usize
-    ensures none { result ≡ 0 → (count ≡ 0) × (proves ≡ true) }
-    ensures all { count ≡ 0 → proves ≡ true → result ≡ 0 }
-{
-    if proves {
-        count
-    } else {
-        count.saturating_add(1)
-    }
-}
-
-// The text without rules that can go, and how many are gone.
-fn shorter_text(
-    proved: Proved<'_>,
-    text: &[u8],
-    scripts: &[RawScript],
-) -> Result<(Vec<u8>, usize), Memory>
+// The text without rules that can go.
+fn shorter_text(proved: Proved<'_>, text: &[u8], scripts: &[RawScript]) -> Result<Vec<u8>, Memory>
     requires ready { IsReady proved.dev.now proved.table.now proved.list.now }
     requires short { All IsShort scripts.now }
 {
     let tokens = tokens_of(proved.alloc, text)?;
     let mut out = Vec::new(proved.alloc);
-    let mut gone = 0usize;
     let mut done = 0usize;
     for (index, script) in scripts.iter().enumerate() {
         let end = end_of(scripts, index, text.len());
         out.extend_from_slice(part(text, done, script.at))?;
-        let (shorter, lost) = script_text(proved, text, &tokens, script, end)?;
-        out.extend_from_slice(&shorter)?;
-        gone = gone.saturating_add(lost);
+        out.extend_from_slice(&script_text(proved, text, &tokens, script, end)?)?;
         done = end;
     }
     out.extend_from_slice(part(text, done, text.len()))?;
-    Ok((out, gone))
+    Ok(out)
 }
 
 // Where a script ends: where the next one begins, or the text ends.
@@ -155,28 +120,88 @@ fn tokens_of(alloc: Global, text: &[u8]) -> Result<Vec<Token>, Memory> {
     }
 }
 
-// The text of a script, which ends at this byte, without rules that can go, and how many are gone.
+// The text of a script, which ends at this byte, without rules that can go.
 fn script_text(
     proved: Proved<'_>,
     text: &[u8],
     tokens: &[Token],
     script: &RawScript,
     end: usize,
-) -> Result<(Vec<u8>, usize), Memory>
+) -> Result<Vec<u8>, Memory>
     requires ready { IsReady proved.dev.now proved.table.now proved.list.now }
     requires short { IsShort script.now }
 {
+    let rules = script.rules.len();
     if let Some(found) = planned_text(proved, text, tokens, script, end, false)? {
-        return Ok(found);
+        return lean_text(proved, found, rules);
     }
     if let Some(found) = planned_text(proved, text, tokens, script, end, true)? {
-        return Ok(found);
+        return lean_text(proved, found, rules);
     }
     let same = Vec::from_slice(proved.alloc, part(text, script.at, end))?;
-    Ok((same, 0))
+    if proves(proved, script)? {
+        return lean_text(proved, same, rules);
+    }
+    Ok(same)
 }
 
-// The text of a script by a plan, and how many rules are gone; None where none go, or it proves nothing.
+// The text of one script that proves, of so many rules, without rules that can be left out as they are.
+fn lean_text(proved: Proved<'_>, text: Vec<u8>, rules: usize) -> Result<Vec<u8>, Memory>
+    requires { IsReady proved.dev.now proved.table.now proved.list.now }
+{
+    let mut lean = text;
+    for _ in 0..rules {
+        match leaner(proved, &lean)? {
+            Some(shorter) => lean = shorter,
+            None => return Ok(lean),
+        }
+    }
+    Ok(lean)
+}
+
+// The text of one script without a rule that it does not need; None where it needs each.
+fn leaner(proved: Proved<'_>, text: &[u8]) -> Result<Option<Vec<u8>>, Memory>
+    requires { IsReady proved.dev.now proved.table.now proved.list.now }
+{
+    match scripts_of(proved.alloc, text)? {
+        Some(read) => leaner_script(proved, text, &read),
+        None => Ok(None),
+    }
+}
+
+fn leaner_script(proved: Proved<'_>, text: &[u8], read: &Scripts) -> Result<Option<Vec<u8>>, Memory>
+    requires { IsReady proved.dev.now proved.table.now proved.list.now }
+{
+    read.facts();
+    match read.all() {
+        [only] => without_spare(proved, text, only),
+        _ => Ok(None),
+    }
+}
+
+fn without_spare(
+    proved: Proved<'_>,
+    text: &[u8],
+    script: &RawScript,
+) -> Result<Option<Vec<u8>>, Memory>
+    requires ready { IsReady proved.dev.now proved.table.now proved.list.now }
+    requires short { IsShort script.now }
+{
+    let Some(index) = spare_rule(proved, script)? else {
+        return Ok(None);
+    };
+    let tokens = tokens_of(proved.alloc, text)?;
+    let Some(change) = removal(text, &tokens, script, index) else {
+        return Ok(None);
+    };
+    let shorter = edited(proved.alloc, text, 0, text.len(), &[change])?;
+    if proves_alone(proved, &shorter)? {
+        return Ok(Some(shorter));
+    }
+    Ok(None)
+}
+
+// The text of a script by a plan; None where no rules go, or it proves nothing.
 fn planned_text(
     proved: Proved<'_>,
     text: &[u8],
@@ -184,7 +209,7 @@ fn planned_text(
     script: &RawScript,
     end: usize,
     drops: bool,
-) -> Result<Option<(Vec<u8>, usize)>, Memory>
+) -> Result<Option<Vec<u8>>, Memory>
     requires ready { IsReady proved.dev.now proved.table.now proved.list.now }
     requires short { IsShort script.now }
 {
@@ -196,7 +221,7 @@ fn planned_text(
     }
     let shorter = edited(proved.alloc, text, script.at, end, &changes)?;
     if proves_alone(proved, &shorter)? {
-        return Ok(Some((shorter, gone)));
+        return Ok(Some(shorter));
     }
     Ok(None)
 }

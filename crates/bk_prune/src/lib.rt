@@ -3,6 +3,7 @@
 
 mod edit;
 mod file;
+mod needs;
 mod numbering;
 mod plan;
 mod states;

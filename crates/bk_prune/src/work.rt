@@ -1,10 +1,12 @@
 //! A script and the obligation that it is for.
 
-ghost use Rattle.std.specs.Prelude.{◌≡◌, true, None, find, IfOk, IfSome, IfNone};
+ghost use Rattle.std.specs.Prelude.{◌≡◌, ◌<◌, ◌^◌, true, None, length, find, IfOk, IfSome, IfNone};
 ghost use Rattle.std.specs.Option.{option_copied};
 ghost use Rattle.std.specs.Str.{bytes_eq};
 ghost use Rattle.bk_seq.specs.Sequents.{sequent_of};
+ghost use Rattle.bk_kernel.specs.Derivations.{Derives};
 ghost use Rattle.bk_p_proof.specs.Files.{IsShort};
+ghost use Rattle.bk_status.specs.Replayable.{IsReplayable};
 ghost use Rattle.bk_prune.specs.Pruned.{IsReady, IsWork, ProvesOne, obligation_for};
 
 use bk_dev::Development;
@@ -87,7 +89,23 @@ pub(crate) fn proves(proved: Proved<'_>, script: &RawScript) -> Result<bool, Mem
         table,
         sequent,
     } = work;
-    let verdict = replay(proved.alloc, &table, sequent, &rules)?;
+    closes(proved.alloc, &table, &sequent, &rules)
+}
+
+/// Whether rules derive a sequent.
+pub(crate) fn closes(
+    alloc: Global,
+    table: &VarTable,
+    sequent: &Sequent,
+    rules: &[Rule],
+) -> Result<bool, Memory>
+    requires replayable { IsReplayable table.now (sequent_of sequent.now) }
+    requires countable { length rules.now < 2 ^ 32 }
+    ensures right { IfOk result (λ does. does ≡ true → Derives table.now rules.now (sequent_of sequent.now)) }
+    ensures whole { IfOk result (λ does. Derives table.now rules.now (sequent_of sequent.now) → does ≡ true) }
+{
+    let own = again(alloc, sequent)?;
+    let verdict = replay(alloc, table, own, rules)?;
     Ok(is_closed(verdict))
 }
 

@@ -1,7 +1,7 @@
 use Rattle.std.proofs.Common.{◌≡◌, ◌∙◌, Some, None, find, option_map, refl, sym, subst, ap}
 use Rattle.std.specs.Str.{bytes_eq}
 use Rattle.bk_verbs.specs.Project.{IsTold, proof_files}
-use Rattle.bk_prune.specs.Pruned.{IsPrunedFile, CountsUnproved}
+use Rattle.bk_prune.specs.Pruned.{IsPrunedFile, CountsLeft}
 use Rattle.bk_proof_program.specs.Prunes.{IsPrunedIfNamed}
 use Rattle.bk_proof_program.proofs.Finding.{IfFound, find_map, found_told}
 use Rattle.bk_proof_program.proofs.prune.prune_answer.Goals as goal
@@ -48,9 +48,8 @@ returns-clause-told g c files told =
         pruned = subst (λ t. IsPrunedFile whole.project.development t _) c.deref-3.ensures.value c.in_ok-pruned.ensures.kept;
         list = whole.list.items;
         listed = c.in_ok-whole.ensures.listed;
-        unproved = c.in_ok-pruned.pruned.unproved;
-        counts = subst (λ l. CountsUnproved whole.project.development l c.in-Some.proofs.now.text.items c.in_ok-pruned.pruned.unproved) c.deref-2.ensures.value
-            (subst (λ t. CountsUnproved whole.project.development c.deref-2.result.now t c.in_ok-pruned.pruned.unproved) c.deref-3.ensures.value c.in_ok-pruned.ensures.counted);
+        left = c.in_ok-pruned.pruned.left;
+        counts = subst (λ l. CountsLeft whole.project.development l c.in_ok-pruned.pruned.text.items c.in_ok-pruned.pruned.left) c.deref-2.ensures.value c.in_ok-pruned.ensures.counted;
         ends = c.status_of.ensures.value;
       });
     }

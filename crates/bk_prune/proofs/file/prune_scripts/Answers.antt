@@ -1,26 +1,18 @@
-use Rattle.std.proofs.Common.{◌≡◌, inr, subst}
-use Rattle.std.specs.Prelude.{◌↔◌, All}
-use Rattle.bk_prune.specs.Pruned.{HasStatesOf, ProvesOne}
-use Rattle.bk_prune.proofs.Ready.{kept_as_it_is, counted_so}
+use Rattle.std.proofs.Common.{inr, sym, subst}
+use Rattle.std.specs.Prelude.{All}
+use Rattle.bk_p_proof.specs.Files.{IsShort}
+use Rattle.bk_prune.specs.Pruned.{HasStatesOf}
+use Rattle.bk_prune.proofs.Ready.{kept_as_it_is}
 use Rattle.bk_prune.proofs.file.prune_scripts.Goals as goal
+
+pub shorter_text-requires : goal.shorter_text-requires
+shorter_text-requires c = record { ready = c.requires.ready; short = subst (λ scripts. All IsShort scripts) (sym c.all.ensures) c.facts.ensures.short }
 
 pub returns-then-is_kept : goal.returns-then-is_kept
 returns-then-is_kept c =
     let dev = c.args.proved.dev.now in
     let read = c.args.read.now in
-    let proves = ProvesOne dev c.args.proved.list.now in
-    record {
-      kept = inr (read, c.requires.reads, subst (HasStatesOf dev read) c.deref.ensures.value (c.in_ok-is_kept.ensures c.if-is_kept.true));
-      counted = subst (λ ss. (c.in_ok-unproved.unproved ≡ 0) ↔ All proves ss) c.all-scripts.ensures c.in_ok-unproved.ensures;
-    }
+    inr (read, c.requires.reads, subst (HasStatesOf dev read) c.deref.ensures.value (c.in_ok-is_kept.ensures c.if-is_kept.true))
 
 pub returns : goal.returns
-returns c =
-    let dev = c.args.proved.dev.now in
-    let read = c.args.read.now in
-    let proves = ProvesOne dev c.args.proved.list.now in
-    let counted = subst (λ ss. (c.in_ok-unproved.unproved ≡ 0) ↔ All proves ss) c.all-scripts.ensures c.in_ok-unproved.ensures in
-    record {
-      kept = kept_as_it_is dev c.args.text.now c.unchanged.result c.unchanged.ensures.same;
-      counted = counted_so (All proves read) c.in_ok-unproved.unproved c.unchanged.result c.unchanged.ensures.counted counted;
-    }
+returns c = kept_as_it_is c.args.proved.dev.now c.args.text.now c.same_text.result c.same_text.ensures

@@ -1,14 +1,15 @@
-use Rattle.std.proofs.Common.{◌≡◌, ◌<◌, ◌^◌, None, length, sym, subst}
+use Rattle.std.proofs.Common.{◌≡◌, ◌<◌, ◌^◌, Bool, true, None, length, sym, subst}
+use Rattle.std.proofs.lemmas.Result.{IfOk-weaker}
 use Rattle.bk_seq.specs.Sequents.{sequent_of}
-use Rattle.bk_kernel.specs.Derivations.{IsVerdict}
-use Rattle.bk_prune.specs.Pruned.{obligation_for, IsWork}
+use Rattle.bk_kernel.specs.Derivations.{Derives}
+use Rattle.bk_prune.specs.Pruned.{obligation_for, IsWork, ProvesOne}
 use Rattle.bk_prune.proofs.Ready.{closed_proves, closed_where_proved, proves_none, some_so, none_so}
 use Rattle.bk_prune.proofs.work.proves.Goals as goal
 
-pub replay-requires : goal.replay-requires
-replay-requires c =
+pub closes-requires : goal.closes-requires
+closes-requires c =
     let work = some_so (IsWork c.args.proved.dev.now c.args.proved.list.now c.args.script.now) c.in_ok-work.field-0 c.in-Some.work c.in-Some.is c.in_ok-work.ensures.some in
-    record { types = work.replayable.types; within = work.replayable.within; countable = subst (λ rs. length rs < 2 ^ 32) (sym c.deref.ensures.value) work.countable }
+    record { replayable = work.replayable; countable = subst (λ rs. length rs < 2 ^ 32) (sym c.deref.ensures.value) work.countable }
 
 pub returns-in_default-clause-whole : goal.returns-in_default-clause-whole
 returns-in_default-clause-whole c = λ proved.
@@ -22,9 +23,12 @@ returns c =
     let script = c.args.script.now in
     let found = some_so (IsWork dev list script) c.in_ok-work.field-0 c.in-Some.work c.in-Some.is c.in_ok-work.ensures.some in
     let work = c.in-Some.work in
-    let verdict = c.in_ok-verdict.verdict in
-    let told = subst (λ rs. IsVerdict work.table rs (sequent_of work.sequent) verdict) c.deref.ensures.value c.in_ok-verdict.ensures.verdict in
+    let held = c.deref.ensures.value in
+    let own = sequent_of work.sequent in
+    let rules = c.deref.result.now in
     record {
-      right = λ yes. closed_proves dev list script work verdict found told (c.is_closed.ensures.right yes);
-      whole = λ proved. c.is_closed.ensures.whole (closed_where_proved dev list script work verdict found told proved);
+      right = IfOk-weaker c.closes.result (λ (does : Bool). does ≡ true → Derives work.table rules own) (λ (does : Bool). does ≡ true → ProvesOne dev list script)
+          (λ does h yes. closed_proves dev list script work found (subst (λ rs. Derives work.table rs own) held (h yes))) c.closes.ensures.right;
+      whole = IfOk-weaker c.closes.result (λ (does : Bool). Derives work.table rules own → does ≡ true) (λ (does : Bool). ProvesOne dev list script → does ≡ true)
+          (λ does h proved. h (subst (λ rs. Derives work.table rs own) (sym held) (closed_where_proved dev list script work found proved))) c.closes.ensures.whole;
     }
