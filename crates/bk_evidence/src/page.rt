@@ -19,6 +19,8 @@ th:nth-child(3):nth-last-child(2) { width: 15%; }
 th:nth-child(4):last-child { width: 18%; }
 code, pre { font-family: ui-monospace, monospace; font-size: 0.85rem; }
 pre { white-space: pre-wrap; overflow-wrap: anywhere; background: #f5f5f2; padding: 0.6rem; margin: 0.4rem 0; }
+tr:has(+ .shown) td { border-bottom: 0; }
+.shown td { padding-top: 0; }
 .open { color: #8c1d18; font-weight: 600; }
 .open code { font-weight: 400; }
 .settled { color: #1d5c2e; }
@@ -28,10 +30,12 @@ pre { white-space: pre-wrap; overflow-wrap: anywhere; background: #f5f5f2; paddi
 table:not(:first-of-type) :is(thead, th) { display: none; }
 table:not(:first-of-type) :is(tbody, tr, td) { display: block; border: 0; padding: 0.1rem 0; overflow-wrap: anywhere; }
 table:not(:first-of-type) tr { border-bottom: 1px solid #d8d8d8; padding: 0.5rem 0; }
+table:not(:first-of-type) tr:has(+ .shown) { border-bottom: 0; padding-bottom: 0; }
 }
 @media print {
 body { margin: 0; max-width: none; font-size: 10pt; }
 tr, p { break-inside: avoid; }
+.shown { break-before: avoid; break-inside: auto; }
 h2 { break-after: avoid; }
 details::details-content { content-visibility: visible; }
 summary { display: none; }
