@@ -89,12 +89,26 @@ fn words_of<H: Shelf>(
 ) -> Result<Vec<u8>, Memory>
     ensures { H.faults shelf.old ≤ H.faults shelf.new }
 {
-    let mut texts = read_once_more(alloc, asked, shelf)?;
-    if is_of_calls(stop) && !asked.is_image {
-        add_built(alloc, &mut texts, asked.file, shelf)?;
-    }
+    let texts = copies_for(alloc, stop, asked, shelf)?;
     let sources = sources_of(alloc, &texts)?;
     explanation(alloc, stop, &sources)
+}
+
+// The files that are asked about; at a line of calls of a project also its image.
+fn copies_for<H: Shelf>(
+    alloc: Global,
+    stop: &Stop,
+    asked: Question<'_>,
+    shelf: &mut H,
+) -> Result<Vec<FileCopy>, Memory>
+    ensures { H.faults shelf.old ≤ H.faults shelf.new }
+{
+    let mut texts = read_once_more(alloc, asked, shelf)?;
+    if asked.is_image || !is_of_calls(stop) {
+        return Ok(texts);
+    }
+    add_built(alloc, &mut texts, asked.file, shelf)?;
+    Ok(texts)
 }
 
 fn is_of_calls(stop: &Stop) -> bool {
