@@ -278,8 +278,8 @@ fn say_kind(
 // How many parentheses open directly before a token, and the number of the token before these.
 fn behind_parentheses(text: &[u8], list: &[Token], index: usize) -> (usize, usize) {
     let mut open = 0usize;
-    for back in 1..=index {
-        let place = index - back;
+    for back in 0..index {
+        let place = index - 1 - back;
         if word_at(text, list, place) != b"(".as_slice() {
             return (open, place);
         }
@@ -332,8 +332,8 @@ fn joins_predicates(word: &[u8]) -> bool {
 // The bracket that is open at a token.
 fn encloses<'a>(text: &'a [u8], list: &[Token], index: usize) -> &'a [u8] {
     let mut closed = 0usize;
-    for back in 1..=index {
-        let word = word_at(text, list, index - back);
+    for back in 0..index {
+        let word = word_at(text, list, index - 1 - back);
         if is_one_of(word, &[")", "}", "]"]) {
             closed = closed.saturating_add(1);
         } else if is_one_of(word, &["(", "{", "["]) {

@@ -120,8 +120,8 @@ fn stands_before(text: &[u8], list: &[Token], index: usize) -> bool {
 fn is_written_beside(text: &[u8], list: &[Token], index: usize) -> bool {
     let name = word_at(text, list, index);
     let mut is_beside = false;
-    for back in 1..=index {
-        let place = index - back;
+    for back in 0..index {
+        let place = index - 1 - back;
         let word = word_at(text, list, place);
         if word == b"||".as_slice() {
             is_beside = true;
