@@ -75,7 +75,8 @@ pub fn open_after(
 
 // The first so many rules.
 fn front_of(rules: &[Rule], count: usize) -> &[Rule]
-    ensures { result.now ≡ take count rules.now }
+    ensures front { result.now ≡ take count rules.now }
+    ensures most { length result.now ≤ length rules.now }
 {
     if count < rules.len() {
         &rules[..count]

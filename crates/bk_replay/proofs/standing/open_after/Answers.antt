@@ -8,7 +8,7 @@ use Rattle.bk_replay.proofs.standing.open_after.Goals as goal
 pub returns : goal.returns
 returns c =
     let s = sequent_of c.args.sequent in
-    let far = subst (λ rs. IfOk c.furthest.result (λ st. IsFurthest c.args.types.now rs s st.done (map sequent_of st.left.items))) c.front_of.ensures c.furthest.ensures in
+    let far = subst (λ rs. IfOk c.furthest.result (λ st. IsFurthest c.args.types.now rs s st.done (map sequent_of st.left.items))) c.front_of.ensures.front c.furthest.ensures in
     record {
       after = front_after c.args.types.now c.args.rules.now s c.args.count c.furthest.result far;
       most = front_most c.args.types.now c.args.rules.now s c.args.count c.furthest.result far;
