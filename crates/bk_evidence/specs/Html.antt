@@ -85,11 +85,15 @@ abbrev pub heading : (settled : Bool) → List ℕ
 heading true = codes "<h2>Settled</h2>\n"
 heading false = codes "<h2>Open</h2>\n"
 
--- rows as a table with such a heading; nothing where there are none
-abbrev pub table_part : (settled : Bool) → List ℕ → List ℕ
-table_part settled rows = cond (nat_eq (length rows) 0) [] (heading settled
+-- rows as a table with such a heading
+abbrev pub whole_table : (settled : Bool) → List ℕ → List ℕ
+whole_table settled rows = heading settled
     ++ codes "<table>\n<thead><tr><th>Obligation</th><th>What it asks</th><th>Where</th><th>State</th></tr></thead>\n<tbody>\n"
-    ++ rows ++ codes "</tbody>\n</table>\n")
+    ++ rows ++ codes "</tbody>\n</table>\n"
+
+-- the same; nothing where there are none
+abbrev pub table_part : (settled : Bool) → List ℕ → List ℕ
+table_part settled rows = cond (nat_eq (length rows) 0) [] (whole_table settled rows)
 
 -- the obligations that are settled, or those that are not
 abbrev pub rows_part : (settled : Bool) → List Item → List ℕ
@@ -108,10 +112,13 @@ abbrev pub cells_part : Sums → List ℕ
 cells_part sums = count_within (codes "<td>") sums.obligations (codes "</td>") ++ count_within (codes "<td>") sums.obvious (codes "</td>")
     ++ count_within (codes "<td>") sums.proved (codes "</td>") ++ count_within (codes "<td>") sums.left (codes "</td></tr>\n")
 
--- the row of a kind of obligations, where there are some
+-- the row of a kind of obligations
+abbrev pub concern_row : Concern → Sums → List ℕ
+concern_row concern sums = text_within (codes "<tr><td>") (concern_text concern) (codes "</td>") ++ cells_part sums
+
+-- the same, where there are some
 abbrev pub concern_part : Concern → Sums → List ℕ
-concern_part concern sums =
-    cond (nat_eq sums.obligations 0) [] (text_within (codes "<tr><td>") (concern_text concern) (codes "</td>") ++ cells_part sums)
+concern_part concern sums = cond (nat_eq sums.obligations 0) [] (concern_row concern sums)
 
 -- the rows of the first kinds, and of the others
 abbrev pub first_concerns_part : List Item → List ℕ
@@ -133,10 +140,13 @@ concerns_part items =
 abbrev pub stray_part : List ℕ → List ℕ
 stray_part name = text_within (codes "<li><code>") name (codes "</code></li>\n")
 
--- their list; nothing where there are none
+-- their list
+abbrev pub stray_list : List (List ℕ) → List ℕ
+stray_list strays = codes "<h2>Scripts that belong to no obligation</h2>\n<ul>\n" ++ flat_map stray_part strays ++ codes "</ul>\n"
+
+-- the same; nothing where there are none
 abbrev pub strays_part : List (List ℕ) → List ℕ
-strays_part strays = cond (nat_eq (length strays) 0) []
-    (codes "<h2>Scripts that belong to no obligation</h2>\n<ul>\n" ++ flat_map stray_part strays ++ codes "</ul>\n")
+strays_part strays = cond (nat_eq (length strays) 0) [] (stray_list strays)
 
 -- a file, how many bytes it has, and its SHA-256
 abbrev pub input_part : Input → List ℕ

@@ -168,6 +168,12 @@ fn write_some(page: &mut Vec<u8>, concern: Concern, sums: Sums) -> Result<(), Al
     if sums.obligations == 0 {
         return Ok(());
     }
+    write_concern_row(page, concern, sums)
+}
+
+fn write_concern_row(page: &mut Vec<u8>, concern: Concern, sums: Sums) -> Result<(), AllocError>
+    ensures { OnOk result (page.new.items ≡ page.old.items ++ meant.concern_row concern sums) }
+{
     put_text(page, "<tr><td>", concern_text(concern).as_bytes(), "</td>")?;
     write_cells(page, sums)?;
     Ok(())
@@ -234,6 +240,12 @@ fn write_table(page: &mut Vec<u8>, settled: bool, rows: &[u8]) -> Result<(), All
     if rows.is_empty() {
         return Ok(());
     }
+    write_whole_table(page, settled, rows)
+}
+
+fn write_whole_table(page: &mut Vec<u8>, settled: bool, rows: &[u8]) -> Result<(), AllocError>
+    ensures { OnOk result (page.new.items ≡ page.old.items ++ meant.whole_table settled rows.now) }
+{
     put(page, heading(settled))?;
     put(
         page,
@@ -348,6 +360,12 @@ fn write_strays(page: &mut Vec<u8>, strays: &[Text]) -> Result<(), AllocError>
     if strays.is_empty() {
         return Ok(());
     }
+    write_stray_list(page, strays)
+}
+
+fn write_stray_list(page: &mut Vec<u8>, strays: &[Text]) -> Result<(), AllocError>
+    ensures { OnOk result (page.new.items ≡ page.old.items ++ meant.stray_list strays.now) }
+{
     put(
         page,
         "<h2>Scripts that belong to no obligation</h2>\n<ul>\n",
