@@ -1,6 +1,6 @@
 -- The page that a report is written as in HTML. A text that comes from files stands escaped, so that none of its bytes is read as a mark.
-use Rattle.std.specs.Prelude.{ℕ, nat_eq, Bool, true, false, not, cond, List, [], ◌∷◌, ◌++◌, length, Option, Some, None, codes, decimal, string_bytes}
-use Rattle.std.specs.List.{flat_map}
+use Rattle.std.specs.Prelude.{◌≡◌, ℕ, nat_eq, Bool, true, false, not, ◌||◌, cond, List, [], ◌∷◌, ◌++◌, length, Option, Some, None, codes, decimal, string_bytes}
+use Rattle.std.specs.List.{flat_map, list_all}
 use Rattle.bk_status.specs.Rows.{is_settled}
 use Rattle.bk_status.specs.declared.state.State.{State}
 use Rattle.bk_report.specs.Table.{state_text}
@@ -25,6 +25,14 @@ escaped_byte byte = cond (nat_eq byte 60) (codes "&lt;") (cond (nat_eq byte 62) 
 -- all bytes of a text
 abbrev pub escaped : List ℕ → List ℕ
 escaped text = flat_map escaped_byte text
+
+-- a byte that HTML reads as the begin or end of a mark, or of a quoted value
+abbrev pub is_mark : ℕ → Bool
+is_mark byte = nat_eq byte 60 || nat_eq byte 62 || nat_eq byte 34 || nat_eq byte 39
+
+-- none of an escaped text is one
+abbrev pub EscapedIsBare : Type 0
+EscapedIsBare = (text : List ℕ) → list_all (λ byte. not (is_mark byte)) (escaped text) ≡ true
 
 -- a text between marks
 abbrev pub text_within : (before text after : List ℕ) → List ℕ
