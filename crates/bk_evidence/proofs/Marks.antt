@@ -15,10 +15,10 @@ both false y e h = absurd (cc)
 plain : (byte : ℕ) → nat_eq byte 60 ≡ false → nat_eq byte 62 ≡ false → nat_eq byte 34 ≡ false → nat_eq byte 39 ≡ false → list_all is_bare (byte ∷ []) ≡ true
 plain byte less greater quote tick = simp (less, greater, quote, tick)
 
-bare-by : (byte : ℕ) (less greater and quote tick : Bool) → nat_eq byte 60 ≡ less → nat_eq byte 62 ≡ greater → nat_eq byte 34 ≡ quote → nat_eq byte 39 ≡ tick →
-    list_all is_bare (cond less (codes "&lt;") (cond greater (codes "&gt;") (cond and (codes "&amp;") (cond quote (codes "&quot;") (cond tick (codes "&#39;") (byte ∷ [])))))) ≡ true
-bare-by byte true greater and quote tick e f g h = refl
-bare-by byte false true and quote tick e f g h = refl
+bare-by : (byte : ℕ) (less greater amp quote tick : Bool) → nat_eq byte 60 ≡ less → nat_eq byte 62 ≡ greater → nat_eq byte 34 ≡ quote → nat_eq byte 39 ≡ tick →
+    list_all is_bare (cond less (codes "&lt;") (cond greater (codes "&gt;") (cond amp (codes "&amp;") (cond quote (codes "&quot;") (cond tick (codes "&#39;") (byte ∷ [])))))) ≡ true
+bare-by byte true greater amp quote tick e f g h = refl
+bare-by byte false true amp quote tick e f g h = refl
 bare-by byte false false true quote tick e f g h = refl
 bare-by byte false false false true tick e f g h = refl
 bare-by byte false false false false true e f g h = refl
