@@ -2,7 +2,7 @@
 
 ghost use Rattle.std.specs.Prelude.{◌≡◌, ◌++◌, IfOk, OnOk};
 ghost use Rattle.std.specs.List.{flat_map};
-ghost use Rattle.bk_evidence.specs.Items as sums;
+ghost use Rattle.bk_evidence.specs.Items as counts;
 ghost use Rattle.bk_evidence.specs.Html as meant;
 
 use crate::claim::Claims;
@@ -156,7 +156,7 @@ fn write_last_concerns(page: &mut Vec<u8>, items: &[Item]) -> Result<(), AllocEr
 }
 
 fn write_concern(page: &mut Vec<u8>, items: &[Item], concern: Concern) -> Result<(), AllocError>
-    ensures { OnOk result (page.new.items ≡ page.old.items ++ meant.concern_part concern (sums.sums_with concern items.now)) }
+    ensures { OnOk result (page.new.items ≡ page.old.items ++ meant.concern_part concern (counts.sums_with concern items.now)) }
 {
     let sums = sums_with(items, concern);
     write_some(page, concern, sums)
