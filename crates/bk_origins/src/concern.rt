@@ -1,7 +1,7 @@
 //! Kinds of obligations.
 
 ghost use Rattle.std.specs.Prelude.{◌≡◌};
-ghost use Rattle.bk_origins.specs.Concerns as meant;
+ghost use Rattle.bk_origins.specs.Concerns.{concern_of, concern_by, dots, behind_dot};
 
 /// What kind of obligation it is, by its clause.
 #[derive(Clone, Copy, PartialEq, Eq, Debug)]
@@ -20,7 +20,7 @@ pub enum Concern {
 
 /// The kind of the obligation with this name.
 pub fn concern_of(name: &[u8]) -> Concern
-    ensures { result ≡ meant.concern_of name.now }
+    ensures { result ≡ concern_of name.now }
 {
     match dots(name) {
         2 => concern_by(behind_dot(name)),
@@ -31,27 +31,26 @@ pub fn concern_of(name: &[u8]) -> Concern
 
 // How many dots a name has.
 fn dots(name: &[u8]) -> usize
-    ensures { result ≡ meant.dots name.now }
+    ensures { result ≡ dots name.now }
 {
     name.iter().filter(|byte| **byte == b'.').count()
 }
 
 // What stands behind the first one.
 fn behind_dot(name: &[u8]) -> &[u8]
-    ensures { result.now ≡ meant.behind_dot name.now }
+    ensures { result.now ≡ behind_dot name.now }
 {
-    let [first, rest @ ..] = name else {
-        return &[];
-    };
-    if *first == b'.' {
-        return rest;
+    for index in 0..name.len() {
+        if name[index] == b'.' {
+            return &name[index + 1..];
+        }
     }
-    behind_dot(rest)
+    &[]
 }
 
 // The kind of what is named by a clause, CLAUSE.number.
 fn concern_by(clause: &[u8]) -> Concern
-    ensures { result ≡ meant.concern_by clause.now }
+    ensures { result ≡ concern_by clause.now }
 {
     if clause.starts_with(b"INITIALISATION.") {
         return Concern::Initialisation;
