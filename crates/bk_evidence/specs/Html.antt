@@ -43,15 +43,18 @@ abbrev pub count_within : (before : List ℕ) → ℕ → (after : List ℕ) →
 count_within before count after = (before ++ decimal count) ++ after
 
 -- ---- obligations
--- what is open of an obligation, folded; nothing where nothing is said
+-- a row of what is open of an obligation, folded
+abbrev pub shown_row : List ℕ → List ℕ
+shown_row shown = text_within (codes "<tr class=\"shown\"><td colspan=\"4\"><details><summary>sequents</summary><pre>") shown
+    (codes "</pre></details></td></tr>\n")
+
+-- the same; nothing where nothing is said
 abbrev pub shown_part : List ℕ → List ℕ
-shown_part shown =
-    cond (nat_eq (length shown) 0) [] (text_within (codes "<details><summary>sequents</summary><pre>") shown (codes "</pre></details>"))
+shown_part shown = cond (nat_eq (length shown) 0) [] (shown_row shown)
 
 -- its name, and what it asks
 abbrev pub question_part : Item → List ℕ
-question_part item =
-    text_within (codes "<tr><td><code>") item.name (codes "</code></td><td>") ++ escaped item.words ++ shown_part item.shown
+question_part item = text_within (codes "<tr><td><code>") item.name (codes "</code></td><td>") ++ escaped item.words
 
 -- where it comes from
 abbrev pub place_part : Item → List ℕ
@@ -75,9 +78,9 @@ script_part (Some script) = rules_part script
 abbrev pub answer_part : Item → List ℕ
 answer_part item = state_mark item.state ++ state_text item.state ++ script_part item.script ++ codes "</td></tr>\n"
 
--- the row of an obligation
+-- the row of an obligation, and behind it what is open of it
 abbrev pub row_part : Item → List ℕ
-row_part item = question_part item ++ place_part item ++ answer_part item
+row_part item = question_part item ++ place_part item ++ answer_part item ++ shown_part item.shown
 
 -- whether it is one of those that are settled, or of those that are not
 abbrev pub is_asked : (settled : Bool) → State → Bool

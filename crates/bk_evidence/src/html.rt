@@ -272,6 +272,7 @@ fn write_row(page: &mut Vec<u8>, item: &Item) -> Result<(), AllocError>
     write_question(page, item)?;
     write_place(page, item)?;
     write_answer(page, item)?;
+    write_shown(page, item.shown.as_bytes())?;
     Ok(())
 }
 
@@ -286,23 +287,7 @@ fn write_question(page: &mut Vec<u8>, item: &Item) -> Result<(), AllocError>
         "</code></td><td>",
     )?;
     escape(page, item.words.as_bytes())?;
-    write_shown(page, item.shown.as_bytes())?;
     Ok(())
-}
-
-// What is open of it, folded.
-fn write_shown(page: &mut Vec<u8>, shown: &[u8]) -> Result<(), AllocError>
-    ensures { OnOk result (page.new.items ≡ page.old.items ++ meant.shown_part shown.now) }
-{
-    if shown.is_empty() {
-        return Ok(());
-    }
-    put_text(
-        page,
-        "<details><summary>sequents</summary><pre>",
-        shown,
-        "</pre></details>",
-    )
 }
 
 // Where it comes from.
@@ -351,6 +336,21 @@ fn write_rules(page: &mut Vec<u8>, script: &Script) -> Result<(), AllocError>
     put_text(page, "<br><code>", script.place.as_bytes(), "</code>")?;
     write_count(page, b", rules ", script.rules)?;
     Ok(())
+}
+
+// What is open of it, folded.
+fn write_shown(page: &mut Vec<u8>, shown: &[u8]) -> Result<(), AllocError>
+    ensures { OnOk result (page.new.items ≡ page.old.items ++ meant.shown_part shown.now) }
+{
+    if shown.is_empty() {
+        return Ok(());
+    }
+    put_text(
+        page,
+        "<tr class=\"shown\"><td colspan=\"4\"><details><summary>sequents</summary><pre>",
+        shown,
+        "</pre></details></td></tr>\n",
+    )
 }
 
 // ---- what else is known
