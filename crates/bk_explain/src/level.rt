@@ -1,12 +1,13 @@
-//! Faults of components below others: headers, what is executed, what is written, values.
+//! Faults of components below others: headers, where substitutions stand, values.
 
+use crate::executed::say_executed;
 use crate::say::{say, say_quoted, token_at, tokens_of, word_at};
-use crate::source::{Source, SourceKind};
+use crate::source::Source;
 use crate::tree::{
     constants, entries_for, is_constant, lacks_initialisation, machine_of, operation_named,
     operations, tree_of, values,
 };
-use bk_form::Token;
+use crate::written::say_written;
 use bk_io::Memory;
 use bk_raw::{RawComponent, RawName, RawOperation};
 use std::alloc::Global;
@@ -30,7 +31,7 @@ pub(crate) fn say_level_fault(
     let token = word_at(source.text, &list, index);
     match number {
         10 => say_shape(alloc, words, sources, &tree, token, place),
-        11 => say_executed(words, token),
+        11 => say_executed(words, source.text, &list, index),
         12 => say_written(alloc, words, sources, source, &list, index),
         14 => say_value(alloc, words, sources, &tree, token, place),
         _ => say(words, "this is not read\n"),
@@ -79,10 +80,7 @@ fn say_wanting(
     tree: &RawComponent,
 ) -> Result<(), Memory> {
     if lacks_initialisation(tree) {
-        return say(
-            words,
-            "INITIALISATION is wanting: the component has variables\n",
-        );
+        return say_no_initialisation(words);
     }
     if let Some(machine) = machine_of(alloc, sources)? {
         for operation in operations(&machine) {
@@ -93,7 +91,14 @@ fn say_wanting(
             }
         }
     }
-    say(words, "an operation of the machine is wanting\n")
+    say_no_initialisation(words)
+}
+
+fn say_no_initialisation(words: &mut Vec<u8>) -> Result<(), Memory> {
+    say(
+        words,
+        "INITIALISATION is wanting: the component has variables\n",
+    )
 }
 
 // The byte at which an operation begins.
@@ -152,59 +157,6 @@ fn write_names(words: &mut Vec<u8>, names: &[RawName]) -> Result<(), Memory> {
     Ok(())
 }
 
-// ---- code
-// What is no B0.
-fn say_executed(words: &mut Vec<u8>, token: &[u8]) -> Result<(), Memory> {
-    say_quoted(words, token)?;
-    say(
-        words,
-        " begins what cannot be executed. An implementation has skip, x := E of one variable, f(e) := E of an array, f := D * {E}, ;, BEGIN, VAR, IF, WHILE and ASSERT; its terms are numbers, truth values and elements, + - * / mod, arrays at an index, and comparisons joined by & or not; its variables are of these, or arrays over an interval, BOOL or an enumerated set\n",
-    )
-}
-
-// ---- writes
-// What cannot be written.
-fn say_written(
-    alloc: Global,
-    words: &mut Vec<u8>,
-    sources: &[Source<'_>],
-    source: Source<'_>,
-    list: &[Token],
-    index: usize,
-) -> Result<(), Memory> {
-    let name = word_at(source.text, list, index);
-    say_quoted(words, name)?;
-    if stands_before(source.text, list, index) {
-        return say(words, " stands twice on the left\n");
-    }
-    if is_constant(alloc, sources, name)? {
-        return say(
-            words,
-            " is a constant: only variables, outputs and locals are written\n",
-        );
-    }
-    say(
-        words,
-        " cannot be written here: it is no variable of this component, output or local; or there are not as many terms as names; or both sides of || write it\n",
-    )
-}
-
-// Whether the name of a token stands before it, in the list of names that it stands in.
-fn stands_before(text: &[u8], list: &[Token], index: usize) -> bool {
-    let name = word_at(text, list, index);
-    let mut place = index;
-    for _ in 0..index {
-        if place < 2 || word_at(text, list, place - 1) != b",".as_slice() {
-            return false;
-        }
-        place -= 2;
-        if word_at(text, list, place) == name {
-            return true;
-        }
-    }
-    false
-}
-
 // ---- values
 // Values of constants.
 fn say_value(
@@ -251,7 +203,7 @@ fn say_without_value(
     tree: &RawComponent,
 ) -> Result<(), Memory> {
     for source in sources {
-        if source.kind == SourceKind::Component {
+        if source.kind.is_component() {
             if let Some(above) = tree_of(alloc, *source)? {
                 if let Some(name) = without_value(constants(&above), tree) {
                     say_quoted(words, name)?;

@@ -2,6 +2,7 @@
 #![tactic(auto)]
 
 mod calls;
+mod executed;
 mod image;
 mod level;
 mod limit;
@@ -12,6 +13,7 @@ mod source;
 mod spelling;
 mod stop;
 mod tree;
+mod written;
 
 pub use source::{Source, SourceKind};
 pub use stop::explanation;

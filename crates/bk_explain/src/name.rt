@@ -1,6 +1,8 @@
 //! Faults of names and types.
 
-use crate::say::{is_clause, is_one_of, say, say_place, say_quoted, token_at, tokens_of, written};
+use crate::say::{
+    clause_before, is_one_of, say, say_place, say_quoted, token_at, tokens_of, word_at, written,
+};
 use crate::source::{Source, SourceKind};
 use bk_form::{Token, TokenKind};
 use bk_io::Memory;
@@ -24,7 +26,7 @@ pub(crate) fn say_name_fault(
         6 => say_twice(alloc, words, sources, source, &list, index),
         7 => say_unknown(alloc, words, source, &list, index),
         8 => say_untyped(words, source, &list, index),
-        _ => say_kind(words),
+        _ => say_kind(words, source, &list, index),
     }
 }
 
@@ -74,7 +76,7 @@ fn declared_above<'a>(
         if above.name == source.name {
             return Ok(None);
         }
-        if above.kind == SourceKind::Component {
+        if above.kind.is_component() {
             let list = tokens_of(alloc, above.text)?;
             for token in &list {
                 if written(above.text, token) == name {
@@ -158,9 +160,9 @@ fn say_untyped(
     if let TokenKind::Name(_) = &token.kind {
         if let Some(place) = place_of_type(source.text, list, index) {
             say_quoted(words, name)?;
-            say(words, " has no type: add ")?;
-            say_quoted(words, name)?;
-            say(words, " : SET")?;
+            say(words, " has no type: add `")?;
+            words.extend_from_slice(name)?;
+            say(words, " : SET`")?;
             return say(words, place);
         }
     }
@@ -182,10 +184,6 @@ fn say_untyped(
 
 // Where the type of a name that is declared there is to be told; None of a name that is used.
 fn place_of_type(text: &[u8], list: &[Token], index: usize) -> Option<&'static str> {
-    let before = match index.checked_sub(1).and_then(|before| list.get(before)) {
-        Some(token) => written(text, token),
-        None => b"".as_slice(),
-    };
     let clause = clause_before(text, list, index);
     if is_one_of(clause, &["CONSTANTS", "CONCRETE_CONSTANTS"]) {
         return Some(" to PROPERTIES\n");
@@ -196,31 +194,199 @@ fn place_of_type(text: &[u8], list: &[Token], index: usize) -> Option<&'static s
     ) {
         return Some(" to INVARIANT\n");
     }
-    match before {
+    let first = first_of_list(text, list, index);
+    match word_before(text, list, first) {
+        b"(" => place_in_parentheses(text, list, first.saturating_sub(1)),
+        before => place_behind(before),
+    }
+}
+
+// Of names in parentheses, of which this is the first.
+fn place_in_parentheses(text: &[u8], list: &[Token], open: usize) -> Option<&'static str> {
+    let word = word_before(text, list, open);
+    if is_one_of(word, &["!", "#", "%"]) {
+        return place_behind(word);
+    }
+    let ahead = word_before(text, list, open.saturating_sub(1));
+    if is_one_of(ahead, &["OPERATIONS", ";", "<--"]) {
+        return Some(" to the PRE with which the machine's operation begins\n");
+    }
+    None
+}
+
+// Of names behind a word or a sign.
+fn place_behind(word: &[u8]) -> Option<&'static str> {
+    match word {
         b"!" => Some(" before the => of the quantifier\n"),
         b"#" | b"{" | b"%" => Some(" as a conjunct to what it binds\n"),
         b"VAR" => Some(" by an assignment of a term that has a type\n"),
+        b"OPERATIONS" | b";" => Some(" by an assignment of a term that has a type\n"),
         b"ANY" => Some(" to WHERE\n"),
         _ => None,
     }
 }
 
-// The last word of a clause before a token.
-fn clause_before<'a>(text: &'a [u8], list: &[Token], index: usize) -> &'a [u8] {
-    let mut clause: &'a [u8] = b"";
-    for (number, token) in list.iter().enumerate() {
-        let word = written(text, token);
-        if number < index && is_clause(word) {
-            clause = word;
+// The number of the first name of the list, with commas between, that a token stands in.
+fn first_of_list(text: &[u8], list: &[Token], index: usize) -> usize {
+    let mut first = index;
+    for _ in 0..index {
+        if first < 2 || word_before(text, list, first) != b",".as_slice() {
+            return first;
         }
+        first -= 2;
     }
-    clause
+    first
 }
 
-// A formula of the wrong kind.
-fn say_kind(words: &mut Vec<u8>) -> Result<(), Memory> {
-    say(
-        words,
-        "a predicate stands where a value is asked, or the reverse: beside & or => not and behind INVARIANT stand predicates, beside = + : and behind := values, and bool(P) makes a value of a predicate\n",
+// What stands before a token.
+fn word_before<'a>(text: &'a [u8], list: &[Token], index: usize) -> &'a [u8] {
+    match index.checked_sub(1) {
+        Some(before) => word_at(text, list, before),
+        None => &[],
+    }
+}
+
+// A formula of the wrong kind: what its place asks is told by what stands before it.
+fn say_kind(
+    words: &mut Vec<u8>,
+    source: Source<'_>,
+    list: &[Token],
+    index: usize,
+) -> Result<(), Memory> {
+    let text = source.text;
+    let (open, before) = behind_parentheses(text, list, index);
+    if asks_predicate(text, list, open, before) {
+        say(
+            words,
+            "a predicate is needed here, as n < 3 or x : S is one, and this is a value; b = TRUE is the predicate of a truth value\n",
+        )?;
+    } else {
+        say(
+            words,
+            "a value is needed here, and this is a predicate; bool(P) is the truth value of one\n",
+        )?;
+    }
+    if list
+        .iter()
+        .any(|token| written(text, token) == b"<<:".as_slice())
+    {
+        return say(words, "a side of <<: has no <<: of its own\n");
+    }
+    Ok(())
+}
+
+// How many parentheses open directly before a token, and the number of the token before these.
+fn behind_parentheses(text: &[u8], list: &[Token], index: usize) -> (usize, usize) {
+    let mut open = 0usize;
+    for back in 0..index {
+        let place = index - 1 - back;
+        if word_at(text, list, place) != b"(".as_slice() {
+            return (open, place);
+        }
+        open = open.saturating_add(1);
+    }
+    (open, 0)
+}
+
+// Whether a predicate is asked behind a token and so many parentheses.
+fn asks_predicate(text: &[u8], list: &[Token], open: usize, before: usize) -> bool {
+    let behind = before.saturating_add(open).saturating_add(1);
+    if is_one_of(word_at(text, list, behind), &["not", "!", "#"]) {
+        return false;
+    }
+    match word_at(text, list, before) {
+        b"bool" | b"." => open > 0,
+        b":" => open > 0 && stands_behind_write(text, list, before),
+        b"|" => encloses(text, list, before) == b"{".as_slice(),
+        b";" => clause_before(text, list, before) == b"ASSERTIONS".as_slice(),
+        word => joins_predicates(word) && (open == 0 || !is_operand(text, list, behind)),
+    }
+}
+
+// Whether predicates stand behind a word.
+fn joins_predicates(word: &[u8]) -> bool {
+    is_one_of(
+        word,
+        &[
+            "&",
+            "or",
+            "=>",
+            "<=>",
+            "not",
+            "PROPERTIES",
+            "INVARIANT",
+            "ASSERTIONS",
+            "PRE",
+            "ASSERT",
+            "IF",
+            "ELSIF",
+            "SELECT",
+            "WHEN",
+            "WHERE",
+            "BE",
+            "WHILE",
+        ],
+    )
+}
+
+// The bracket that is open at a token.
+fn encloses<'a>(text: &'a [u8], list: &[Token], index: usize) -> &'a [u8] {
+    let mut closed = 0usize;
+    for back in 0..index {
+        let word = word_at(text, list, index - 1 - back);
+        if is_one_of(word, &[")", "}", "]"]) {
+            closed = closed.saturating_add(1);
+        } else if is_one_of(word, &["(", "{", "["]) {
+            if closed == 0 {
+                return word;
+            }
+            closed -= 1;
+        }
+    }
+    &[]
+}
+
+// Whether an operator on values stands behind the parenthesis that is open at a token.
+fn is_operand(text: &[u8], list: &[Token], index: usize) -> bool {
+    let mut open = 0usize;
+    for place in index..list.len() {
+        let word = word_at(text, list, place);
+        if is_one_of(word, &["(", "{", "["]) {
+            open = open.saturating_add(1);
+        } else if is_one_of(word, &[")", "}", "]"]) {
+            if open == 0 {
+                return joins_values(word_at(text, list, place.saturating_add(1)));
+            }
+            open -= 1;
+        }
+    }
+    false
+}
+
+fn joins_values(word: &[u8]) -> bool {
+    is_one_of(
+        word,
+        &[
+            "=", "/=", "<", "<=", ">", ">=", ":", "/:", "<:", "/<:", "+", "-", "*", "/", "mod",
+            "**", "..", "|->", "\\/", "/\\", "~",
+        ],
+    )
+}
+
+// Whether a `:` belongs to x :(P): the names before it begin a substitution.
+fn stands_behind_write(text: &[u8], list: &[Token], colon: usize) -> bool {
+    let first = first_of_list(text, list, colon.saturating_sub(1));
+    is_one_of(
+        word_before(text, list, first),
+        &[
+            "BEGIN",
+            "THEN",
+            "ELSE",
+            "IN",
+            "DO",
+            ";",
+            "||",
+            "INITIALISATION",
+        ],
     )
 }

@@ -18,6 +18,11 @@ pub(crate) fn say_number(words: &mut Vec<u8>, number: usize) -> Result<(), Memor
     Ok(())
 }
 
+pub(crate) fn say_integer(words: &mut Vec<u8>, number: i64) -> Result<(), Memory> {
+    words.extend_from_slice(Buffer::new().format(number).as_bytes())?;
+    Ok(())
+}
+
 /// Bytes between back quotes.
 pub(crate) fn say_quoted(words: &mut Vec<u8>, bytes: &[u8]) -> Result<(), Memory> {
     words.push(b'`')?;
@@ -108,4 +113,16 @@ pub(crate) fn is_clause(word: &[u8]) -> bool {
             "OPERATIONS",
         ],
     )
+}
+
+/// The last word of a clause before a token.
+pub(crate) fn clause_before<'a>(text: &'a [u8], list: &[Token], index: usize) -> &'a [u8] {
+    let mut clause: &'a [u8] = b"";
+    for (number, token) in list.iter().enumerate() {
+        let word = written(text, token);
+        if number < index && is_clause(word) {
+            clause = word;
+        }
+    }
+    clause
 }

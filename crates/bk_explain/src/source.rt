@@ -1,12 +1,25 @@
 //! The files that were read.
 
-/// What a file holds.
+/// What a file is to hold: of a component by the word of its line in the project file.
 #[derive(Clone, Copy, PartialEq, Eq, Debug)]
 pub enum SourceKind {
     Project,
-    Component,
+    Machine,
+    Refinement,
+    Implementation,
     Proofs,
     Calls,
+    Image,
+}
+
+impl SourceKind {
+    /// Whether it is to hold a component.
+    pub(crate) fn is_component(self) -> bool {
+        matches!(
+            self,
+            SourceKind::Machine | SourceKind::Refinement | SourceKind::Implementation
+        )
+    }
 }
 
 /// A file that was read.

@@ -1,8 +1,8 @@
 //! Faults of the spelling of texts.
 
 use crate::say::{
-    is_clause, is_one_of, say, say_line, say_place, say_quoted, token_at, tokens_of, word_at,
-    written,
+    clause_before, is_clause, is_one_of, say, say_line, say_place, say_quoted, token_at, tokens_of,
+    word_at, written,
 };
 use crate::source::{Source, SourceKind};
 use bk_form::{Token, TokenKind};
@@ -138,7 +138,7 @@ fn say_furthest(
         say(words, "\n")?;
     }
     match token {
-        Some(token) => say_token(words, source, token, furthest)?,
+        Some(token) => say_token(words, source, list, token, furthest)?,
         None => say(words, "here the text ends too early")?,
     }
     say_wanted(words, furthest)?;
@@ -149,21 +149,25 @@ fn say_furthest(
 fn say_token(
     words: &mut Vec<u8>,
     source: Source<'_>,
+    list: &[Token],
     token: &Token,
     furthest: &Furthest,
 ) -> Result<(), Memory> {
     let text = written(source.text, token);
     say_quoted(words, text)?;
     if let Some(hint) = hint_of(text) {
-        say(words, ": ")?;
         return say(words, hint);
     }
-    if source.kind == SourceKind::Component && is_addition(token, text) {
+    if source.kind.is_component() && is_addition(token, text) {
         return say(words, " stands in printed formulas and in scripts alone");
     }
     if let Some(hint) = hint_of_clause(text, furthest) {
-        say(words, ": ")?;
         return say(words, hint);
+    }
+    if source.kind.is_component() {
+        if let Some(hint) = hint_of_place(source.text, list, text, furthest) {
+            return say(words, hint);
+        }
     }
     if is_small_word(token, text) && is_name_wanted(furthest) {
         return say(words, " is a reserved word, and no name");
@@ -183,15 +187,65 @@ fn is_addition(token: &Token, text: &[u8]) -> bool {
 fn hint_of_clause(text: &[u8], furthest: &Furthest) -> Option<&'static str> {
     if is_wanted(furthest, b"<clause>") || is_wanted(furthest, b"<clauses>") {
         if text == b"VALUES".as_slice() {
-            return Some("this clause stands in implementations alone");
+            return Some(" is a clause of implementations alone");
         }
     }
     if is_wanted(furthest, b"<lowest-clause>") || is_wanted(furthest, b"<lowest-clauses>") {
         if is_one_of(text, &["VARIABLES", "ABSTRACT_VARIABLES"]) {
-            return Some("the variables of an implementation stand in CONCRETE_VARIABLES");
+            return Some(
+                " is no clause of an implementation: its variables stand in CONCRETE_VARIABLES",
+            );
         }
     }
     None
+}
+
+// What is said of a token by the place where it stands: of notation that other tools read there.
+fn hint_of_place(
+    text: &[u8],
+    list: &[Token],
+    token: &[u8],
+    furthest: &Furthest,
+) -> Option<&'static str> {
+    if furthest.token == 2 && token == b"(".as_slice() {
+        return Some(" is not read here: a machine has no parameters");
+    }
+    if token == b"<--".as_slice() {
+        return Some(" is not read here: a component calls no operations");
+    }
+    if is_of_sequences(text, list, token, furthest.token) {
+        return Some(" is not read: there are no sequences");
+    }
+    if is_set_alone(text, list, furthest) {
+        return Some(" cannot stand here: the elements of a set are listed, as in S = {a, b}");
+    }
+    None
+}
+
+// Whether a token belongs to the notation of sequences: a sign, a bracket that begins a term, or a word before a parenthesis.
+fn is_of_sequences(text: &[u8], list: &[Token], token: &[u8], index: usize) -> bool {
+    if is_one_of(token, &["^", "->", "<-", "["]) {
+        return true;
+    }
+    is_one_of(
+        token,
+        &["seq", "size", "first", "last", "front", "tail", "rev"],
+    ) && word_at(text, list, index.saturating_add(1)) == b"(".as_slice()
+}
+
+// Whether the name of a set stands before the token, and its elements could.
+fn is_set_alone(text: &[u8], list: &[Token], furthest: &Furthest) -> bool {
+    clause_before(text, list, furthest.token) == b"SETS".as_slice() && waits_for_equal(furthest)
+}
+
+// Whether `=` alone could stand there.
+fn waits_for_equal(furthest: &Furthest) -> bool {
+    for symbol in &furthest.wanted {
+        if !symbol.equal(&Symbol::Text(b"=")) {
+            return false;
+        }
+    }
+    !furthest.wanted.is_empty()
 }
 
 // Whether a part could stand there.
@@ -364,18 +418,21 @@ fn hint_of(text: &[u8]) -> Option<&'static str> {
             "LOCAL_OPERATIONS",
         ],
     ) {
-        return Some("a development stands alone, and this clause is not read");
+        return Some(" is not read: a development stands alone");
     }
     if is_other_notation(text) {
-        return Some("this notation is not read");
+        return Some(" is not read");
     }
     match text {
-        b"DEFINITIONS" => Some("definitions are not read: each is to be written where it is used"),
-        b"ABSTRACT_CONSTANTS" => {
-            Some("constants are numbers, truth values or elements, declared in CONSTANTS")
+        b"CONSTRAINTS" => Some(" is not read: a machine has no parameters"),
+        b"DEFINITIONS" => {
+            Some(" is not read: each definition is to be written where it is used")
         }
-        b"CASE" => Some("CASE is not read: write it as IF and ELSIF, or as SELECT"),
-        b"ELSEIF" => Some("a further branch of IF begins with ELSIF"),
+        b"ABSTRACT_CONSTANTS" => Some(
+            " is not read: constants are numbers, truth values or elements, declared in CONSTANTS",
+        ),
+        b"CASE" => Some(" is not read: write it as IF and ELSIF, or as SELECT"),
+        b"ELSEIF" => Some(" is no reserved word: a further branch of IF begins with ELSIF"),
         _ => None,
     }
 }
@@ -385,8 +442,7 @@ fn is_other_notation(text: &[u8]) -> bool {
     is_one_of(
         text,
         &[
-            "SIGMA", "PI", "UNION", "INTER", "union", "inter", "iterate", "closure", "struct",
-            "rec", "STRING", "perm", "iseq", "seq1",
+            "SIGMA", "PI", "UNION", "INTER", "union", "inter", "iterate", "closure", "EITHER", "OF",
         ],
     )
 }

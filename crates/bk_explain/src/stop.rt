@@ -75,7 +75,7 @@ fn say_refused(
     match number {
         1 | 2 => say_lexical_fault(alloc, words, source),
         3 => say_syntax_fault(alloc, words, source, place),
-        5 => say_component_fault(words),
+        5 => say_component_fault(alloc, words, sources, source),
         6 | 7 | 8 | 9 => say_name_fault(alloc, words, sources, source, number, place),
         _ => say_level_fault(alloc, words, sources, source, number, place),
     }

@@ -24,7 +24,7 @@ pub(crate) fn machine_of(
     sources: &[Source<'_>],
 ) -> Result<Option<RawComponent>, Memory> {
     for source in sources {
-        if source.kind == SourceKind::Component {
+        if source.kind.is_component() {
             return tree_of(alloc, *source);
         }
     }
@@ -89,7 +89,7 @@ pub(crate) fn is_constant(
     name: &[u8],
 ) -> Result<bool, Memory> {
     for source in sources {
-        if source.kind == SourceKind::Component {
+        if source.kind.is_component() {
             if let Some(tree) = tree_of(alloc, *source)? {
                 if has_name(constants(&tree), name) {
                     return Ok(true);

@@ -140,7 +140,7 @@ impl Site<'_> {
         self.say_where(words, clause)
     }
 
-    // `invariant conjunct 3 is kept by take`.
+    // `invariant conjunct 3 is preserved by take`.
     fn say_conjunct(
         &self,
         words: &mut Vec<u8>,
@@ -155,7 +155,7 @@ impl Site<'_> {
         match clause {
             Clause::Assertions => words.extend_from_slice(b" follows from those before it")?,
             Clause::Operation(operation) => {
-                words.extend_from_slice(b" is kept by ")?;
+                words.extend_from_slice(b" is preserved by ")?;
                 words.extend_from_slice(self.operation_name(operation))?;
             }
             _ => words.extend_from_slice(b" holds at the start")?,

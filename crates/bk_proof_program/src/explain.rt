@@ -14,7 +14,7 @@ use bk_explain::{Source, SourceKind, explanation};
 use bk_front::{LineKind, ProjectLine, Refusal, lines};
 use bk_io::{Fetch, Memory, Shelf, Text};
 use bk_limits::{FUEL, MOST_BYTES};
-use bk_verbs::{Stop, prepare};
+use bk_verbs::{Stop, Work, prepare};
 use std::alloc::Global;
 use std::str;
 
@@ -89,9 +89,53 @@ fn words_of<H: Shelf>(
 ) -> Result<Vec<u8>, Memory>
     ensures { H.faults shelf.old ≤ H.faults shelf.new }
 {
-    let texts = read_once_more(alloc, asked, shelf)?;
+    let texts = copies_for(alloc, stop, asked, shelf)?;
     let sources = sources_of(alloc, &texts)?;
     explanation(alloc, stop, &sources)
+}
+
+// The files that are asked about; at a line of calls of a project also its image.
+fn copies_for<H: Shelf>(
+    alloc: Global,
+    stop: &Stop,
+    asked: Question<'_>,
+    shelf: &mut H,
+) -> Result<Vec<FileCopy>, Memory>
+    ensures { H.faults shelf.old ≤ H.faults shelf.new }
+{
+    let mut texts = read_once_more(alloc, asked, shelf)?;
+    if asked.is_image || !is_of_calls(stop) {
+        return Ok(texts);
+    }
+    add_built(alloc, &mut texts, asked.file, shelf)?;
+    Ok(texts)
+}
+
+fn is_of_calls(stop: &Stop) -> bool {
+    matches!(stop, Stop::BadCalls(_))
+}
+
+// The image of a project, if it has one.
+fn add_built<H: Shelf>(
+    alloc: Global,
+    all: &mut Vec<FileCopy>,
+    project: &str,
+    shelf: &mut H,
+) -> Result<(), Memory>
+    ensures { H.faults shelf.old ≤ H.faults shelf.new }
+{
+    match prepare(alloc, Command::Build { project }, shelf) {
+        Ok(Work::Text(text)) => {
+            all.push(FileCopy {
+                name: Text::from_bytes(Vec::new(alloc)),
+                kind: SourceKind::Image,
+                text,
+            })?;
+            Ok(())
+        }
+        Err(Stop::Memory) => Err(Memory),
+        _ => Ok(()),
+    }
 }
 
 // A file, once more.
@@ -111,7 +155,10 @@ fn read_once_more<H: Shelf>(
     ensures { H.faults shelf.old ≤ H.faults shelf.new }
 {
     let mut all = Vec::new(alloc);
-    if !asked.is_image {
+    if asked.is_image {
+        let image = asked.file.as_bytes();
+        add_copy(alloc, &mut all, image, SourceKind::Image, shelf)?;
+    } else {
         add_project(alloc, &mut all, asked.file, shelf)?;
     }
     if let Some(calls) = asked.calls {
@@ -155,15 +202,21 @@ fn add_copies<H: Shelf>(
     ensures { H.faults shelf.old ≤ H.faults shelf.new }
 {
     for line in named {
-        add_copy(alloc, all, line.name.as_bytes(), kind_of(line), shelf)?;
+        if let Some(kind) = kind_of(line) {
+            add_copy(alloc, all, line.name.as_bytes(), kind, shelf)?;
+        }
     }
     Ok(())
 }
 
-fn kind_of(line: &ProjectLine) -> SourceKind {
+// What the file of a line is to hold; None of a line that names no file.
+fn kind_of(line: &ProjectLine) -> Option<SourceKind> {
     match line.kind {
-        LineKind::Proofs => SourceKind::Proofs,
-        _ => SourceKind::Component,
+        LineKind::Range => None,
+        LineKind::Machine => Some(SourceKind::Machine),
+        LineKind::Refinement => Some(SourceKind::Refinement),
+        LineKind::Implementation => Some(SourceKind::Implementation),
+        LineKind::Proofs => Some(SourceKind::Proofs),
     }
 }
 

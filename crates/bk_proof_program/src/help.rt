@@ -34,31 +34,74 @@ const ENTRIES: &[Entry] = &[
     },
     Entry {
         words: "report PROJECT [--json | --html]",
-        text: "the status of the development: the files with their SHA-256, each obligation, sums",
+        text: "the status of the development: the files with their SHA-256, each obligation, sums; as lines, as JSON, or as a page of HTML",
+    },
+    Entry {
+        words: "--help",
+        text: "this text",
+    },
+    Entry {
+        words: "--man",
+        text: "the man page",
     },
 ];
 
+/// The most characters of a line of help.
+const WIDTH: usize = 78;
+
 const STATUS: &str =
-    "Exit status: 0 where the work is done and nothing is left; 4 where it is done and something is open; 1 for wrong words or an unknown NAME; as of bkit where a file is missing (2), refused (3) or not read (10), the output fails (11), or memory ends (12).";
+    "Exit status: 0 where the work is done and nothing is left; 4 where it is done and something is open; 1 for wrong words or an unknown NAME; as of bkit where a file is missing (2), refused (3) or not read (10), the output fails (11), or memory ends (12); explain ends as bkit does at the fault.";
 
 /// The text of `--help`.
 pub(crate) fn help_text(alloc: Global) -> Result<Vec<u8>, Memory> {
     let mut text = Vec::new(alloc);
     put(&mut text, USAGE)?;
     put(&mut text, "\n")?;
-    put(&mut text, PURPOSE)?;
-    put(&mut text, "\n\n")?;
+    put_lines(&mut text, PURPOSE, "")?;
+    put(&mut text, "\n")?;
     for entry in ENTRIES {
-        put(&mut text, "  ")?;
-        put(&mut text, entry.words)?;
-        put(&mut text, "\n      ")?;
-        put(&mut text, entry.text)?;
-        put(&mut text, "\n")?;
+        put_lines(&mut text, entry.words, "  ")?;
+        put_lines(&mut text, entry.text, "      ")?;
     }
     put(&mut text, "\n")?;
-    put(&mut text, STATUS)?;
-    put(&mut text, "\n")?;
+    put_lines(&mut text, STATUS, "")?;
     Ok(text)
+}
+
+// Words in lines that begin so.
+fn put_lines(text: &mut Vec<u8>, words: &str, indent: &str) -> Result<(), Memory> {
+    let mut rest = words.as_bytes();
+    let mut column = 0usize;
+    for _ in 0..words.len() {
+        let (word, behind) = first_word(rest);
+        let next = column.saturating_add(word.len()).saturating_add(1);
+        if column == 0 {
+            put(text, indent)?;
+            column = indent.len();
+        } else if next > WIDTH {
+            put(text, "\n")?;
+            put(text, indent)?;
+            column = indent.len();
+        } else {
+            put(text, " ")?;
+            column = column.saturating_add(1);
+        }
+        text.extend_from_slice(word)?;
+        column = column.saturating_add(word.len());
+        if behind.is_empty() {
+            return put(text, "\n");
+        }
+        rest = behind;
+    }
+    Ok(())
+}
+
+// What stands before the first blank, and what behind it.
+fn first_word(text: &[u8]) -> (&[u8], &[u8]) {
+    match text.iter().position(|byte| *byte == b' ') {
+        Some(end) => (&text[..end], &text[end + 1..]),
+        None => (text, &[]),
+    }
 }
 
 /// The man page, in the macros of man(7).
