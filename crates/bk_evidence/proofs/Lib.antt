@@ -1,3 +1,4 @@
 pub mod Depths
+pub mod Marks
 pub mod Views
 pub mod Pieces

@@ -1,6 +1,13 @@
 -- Pieces that are written one behind another.
 use Rattle.std.proofs.Common.{◌≡◌, ℕ, List, ◌++◌, ◌∙◌, ap, append_assoc}
 
+four-in-row : (text a b c d : List ℕ) → (((text ++ a) ++ b) ++ c) ++ d ≡ text ++ (a ++ b ++ c ++ d)
+four-in-row text a b c d = simp append_assoc
+
+pub four_pieces : (text one two three new a b c d : List ℕ) → one ≡ text ++ a → two ≡ one ++ b → three ≡ two ++ c → new ≡ three ++ d → new ≡ text ++ (a ++ b ++ c ++ d)
+four_pieces text one two three new a b c d e f g h =
+    (h ∙ ap (λ t. t ++ d) (g ∙ ap (λ t. t ++ c) (f ∙ ap (λ t. t ++ b) e))) ∙ four-in-row text a b c d
+
 five-in-row : (text a b c d e : List ℕ) → ((((text ++ a) ++ b) ++ c) ++ d) ++ e ≡ text ++ (a ++ b ++ c ++ d ++ e)
 five-in-row text a b c d e = simp append_assoc
 

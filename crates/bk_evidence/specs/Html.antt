@@ -1,6 +1,6 @@
 -- The page that a report is written as in HTML. A text that comes from files stands escaped, so that none of its bytes is read as a mark.
-use Rattle.std.specs.Prelude.{ℕ, nat_eq, Bool, true, false, not, cond, List, [], ◌∷◌, ◌++◌, length, Option, Some, None, codes, decimal, string_bytes}
-use Rattle.std.specs.List.{flat_map}
+use Rattle.std.specs.Prelude.{◌≡◌, ℕ, nat_eq, Bool, true, false, not, ◌||◌, cond, List, [], ◌∷◌, ◌++◌, length, Option, Some, None, codes, decimal, string_bytes}
+use Rattle.std.specs.List.{flat_map, list_all}
 use Rattle.bk_status.specs.Rows.{is_settled}
 use Rattle.bk_status.specs.declared.state.State.{State}
 use Rattle.bk_report.specs.Table.{state_text}
@@ -26,6 +26,14 @@ escaped_byte byte = cond (nat_eq byte 60) (codes "&lt;") (cond (nat_eq byte 62) 
 abbrev pub escaped : List ℕ → List ℕ
 escaped text = flat_map escaped_byte text
 
+-- a byte that HTML reads as the begin or end of a mark, or of a quoted value
+abbrev pub is_mark : ℕ → Bool
+is_mark byte = nat_eq byte 60 || nat_eq byte 62 || nat_eq byte 34 || nat_eq byte 39
+
+-- none of an escaped text is one
+abbrev pub EscapedIsBare : Type 0
+EscapedIsBare = (text : List ℕ) → list_all (λ byte. not (is_mark byte)) (escaped text) ≡ true
+
 -- a text between marks
 abbrev pub text_within : (before text after : List ℕ) → List ℕ
 text_within before text after = before ++ escaped text ++ after
@@ -35,15 +43,18 @@ abbrev pub count_within : (before : List ℕ) → ℕ → (after : List ℕ) →
 count_within before count after = (before ++ decimal count) ++ after
 
 -- ---- obligations
--- what is open of an obligation, folded; nothing where nothing is said
+-- a row of what is open of an obligation, folded
+abbrev pub shown_row : List ℕ → List ℕ
+shown_row shown = text_within (codes "<tr class=\"shown\"><td colspan=\"4\"><details><summary>sequents</summary><pre>") shown
+    (codes "</pre></details></td></tr>\n")
+
+-- the same; nothing where nothing is said
 abbrev pub shown_part : List ℕ → List ℕ
-shown_part shown =
-    cond (nat_eq (length shown) 0) [] (text_within (codes "<details><summary>sequents</summary><pre>") shown (codes "</pre></details>"))
+shown_part shown = cond (nat_eq (length shown) 0) [] (shown_row shown)
 
 -- its name, and what it asks
 abbrev pub question_part : Item → List ℕ
-question_part item =
-    text_within (codes "<tr><td><code>") item.name (codes "</code></td><td>") ++ escaped item.words ++ shown_part item.shown
+question_part item = text_within (codes "<tr><td><code>") item.name (codes "</code></td><td>") ++ escaped item.words
 
 -- where it comes from
 abbrev pub place_part : Item → List ℕ
@@ -67,9 +78,9 @@ script_part (Some script) = rules_part script
 abbrev pub answer_part : Item → List ℕ
 answer_part item = state_mark item.state ++ state_text item.state ++ script_part item.script ++ codes "</td></tr>\n"
 
--- the row of an obligation
+-- the row of an obligation, and behind it what is open of it
 abbrev pub row_part : Item → List ℕ
-row_part item = question_part item ++ place_part item ++ answer_part item
+row_part item = question_part item ++ place_part item ++ answer_part item ++ shown_part item.shown
 
 -- whether it is one of those that are settled, or of those that are not
 abbrev pub is_asked : (settled : Bool) → State → Bool
@@ -85,11 +96,15 @@ abbrev pub heading : (settled : Bool) → List ℕ
 heading true = codes "<h2>Settled</h2>\n"
 heading false = codes "<h2>Open</h2>\n"
 
--- rows as a table with such a heading; nothing where there are none
-abbrev pub table_part : (settled : Bool) → List ℕ → List ℕ
-table_part settled rows = cond (nat_eq (length rows) 0) [] (heading settled
+-- rows as a table with such a heading
+abbrev pub whole_table : (settled : Bool) → List ℕ → List ℕ
+whole_table settled rows = heading settled
     ++ codes "<table>\n<thead><tr><th>Obligation</th><th>What it asks</th><th>Where</th><th>State</th></tr></thead>\n<tbody>\n"
-    ++ rows ++ codes "</tbody>\n</table>\n")
+    ++ rows ++ codes "</tbody>\n</table>\n"
+
+-- the same; nothing where there are none
+abbrev pub table_part : (settled : Bool) → List ℕ → List ℕ
+table_part settled rows = cond (nat_eq (length rows) 0) [] (whole_table settled rows)
 
 -- the obligations that are settled, or those that are not
 abbrev pub rows_part : (settled : Bool) → List Item → List ℕ
@@ -108,10 +123,13 @@ abbrev pub cells_part : Sums → List ℕ
 cells_part sums = count_within (codes "<td>") sums.obligations (codes "</td>") ++ count_within (codes "<td>") sums.obvious (codes "</td>")
     ++ count_within (codes "<td>") sums.proved (codes "</td>") ++ count_within (codes "<td>") sums.left (codes "</td></tr>\n")
 
--- the row of a kind of obligations, where there are some
+-- the row of a kind of obligations
+abbrev pub concern_row : Concern → Sums → List ℕ
+concern_row concern sums = text_within (codes "<tr><td>") (concern_text concern) (codes "</td>") ++ cells_part sums
+
+-- the same, where there are some
 abbrev pub concern_part : Concern → Sums → List ℕ
-concern_part concern sums =
-    cond (nat_eq sums.obligations 0) [] (text_within (codes "<tr><td>") (concern_text concern) (codes "</td>") ++ cells_part sums)
+concern_part concern sums = cond (nat_eq sums.obligations 0) [] (concern_row concern sums)
 
 -- the rows of the first kinds, and of the others
 abbrev pub first_concerns_part : List Item → List ℕ
@@ -133,10 +151,13 @@ concerns_part items =
 abbrev pub stray_part : List ℕ → List ℕ
 stray_part name = text_within (codes "<li><code>") name (codes "</code></li>\n")
 
--- their list; nothing where there are none
+-- their list
+abbrev pub stray_list : List (List ℕ) → List ℕ
+stray_list strays = codes "<h2>Scripts that belong to no obligation</h2>\n<ul>\n" ++ flat_map stray_part strays ++ codes "</ul>\n"
+
+-- the same; nothing where there are none
 abbrev pub strays_part : List (List ℕ) → List ℕ
-strays_part strays = cond (nat_eq (length strays) 0) []
-    (codes "<h2>Scripts that belong to no obligation</h2>\n<ul>\n" ++ flat_map stray_part strays ++ codes "</ul>\n")
+strays_part strays = cond (nat_eq (length strays) 0) [] (stray_list strays)
 
 -- a file, how many bytes it has, and its SHA-256
 abbrev pub input_part : Input → List ℕ

@@ -62,9 +62,13 @@ concern_text Values = codes "values"
 concern_text Definedness = codes "definedness"
 concern_text Other = codes "others"
 
--- `operations: 8 obligations: 4 obvious, 4 proved, 0 open`, where there are some
+-- `operations: 8 obligations: 4 obvious, 4 proved, 0 open`
+abbrev pub concern_sums : Concern → Sums → List ℕ
+concern_sums concern sums = (concern_text concern ++ codes ": ") ++ sums_line sums
+
+-- the same, where there are some
 abbrev pub concern_line : Concern → Sums → List ℕ
-concern_line concern sums = cond (nat_eq sums.obligations 0) [] ((concern_text concern ++ codes ": ") ++ sums_line sums)
+concern_line concern sums = cond (nat_eq sums.obligations 0) [] (concern_sums concern sums)
 
 -- those of all kinds
 abbrev pub concern_lines : List Item → List ℕ

@@ -2,7 +2,7 @@
 
 ghost use Rattle.std.specs.Prelude.{◌≡◌, ◌++◌, IfOk, OnOk};
 ghost use Rattle.std.specs.List.{flat_map};
-ghost use Rattle.bk_evidence.specs.Items as sums;
+ghost use Rattle.bk_evidence.specs.Items as counts;
 ghost use Rattle.bk_evidence.specs.Html as meant;
 
 use crate::claim::Claims;
@@ -156,7 +156,7 @@ fn write_last_concerns(page: &mut Vec<u8>, items: &[Item]) -> Result<(), AllocEr
 }
 
 fn write_concern(page: &mut Vec<u8>, items: &[Item], concern: Concern) -> Result<(), AllocError>
-    ensures { OnOk result (page.new.items ≡ page.old.items ++ meant.concern_part concern (sums.sums_with concern items.now)) }
+    ensures { OnOk result (page.new.items ≡ page.old.items ++ meant.concern_part concern (counts.sums_with concern items.now)) }
 {
     let sums = sums_with(items, concern);
     write_some(page, concern, sums)
@@ -168,6 +168,12 @@ fn write_some(page: &mut Vec<u8>, concern: Concern, sums: Sums) -> Result<(), Al
     if sums.obligations == 0 {
         return Ok(());
     }
+    write_concern_row(page, concern, sums)
+}
+
+fn write_concern_row(page: &mut Vec<u8>, concern: Concern, sums: Sums) -> Result<(), AllocError>
+    ensures { OnOk result (page.new.items ≡ page.old.items ++ meant.concern_row concern sums) }
+{
     put_text(page, "<tr><td>", concern_text(concern).as_bytes(), "</td>")?;
     write_cells(page, sums)?;
     Ok(())
@@ -234,6 +240,12 @@ fn write_table(page: &mut Vec<u8>, settled: bool, rows: &[u8]) -> Result<(), All
     if rows.is_empty() {
         return Ok(());
     }
+    write_whole_table(page, settled, rows)
+}
+
+fn write_whole_table(page: &mut Vec<u8>, settled: bool, rows: &[u8]) -> Result<(), AllocError>
+    ensures { OnOk result (page.new.items ≡ page.old.items ++ meant.whole_table settled rows.now) }
+{
     put(page, heading(settled))?;
     put(
         page,
@@ -260,6 +272,7 @@ fn write_row(page: &mut Vec<u8>, item: &Item) -> Result<(), AllocError>
     write_question(page, item)?;
     write_place(page, item)?;
     write_answer(page, item)?;
+    write_shown(page, item.shown.as_bytes())?;
     Ok(())
 }
 
@@ -274,23 +287,7 @@ fn write_question(page: &mut Vec<u8>, item: &Item) -> Result<(), AllocError>
         "</code></td><td>",
     )?;
     escape(page, item.words.as_bytes())?;
-    write_shown(page, item.shown.as_bytes())?;
     Ok(())
-}
-
-// What is open of it, folded.
-fn write_shown(page: &mut Vec<u8>, shown: &[u8]) -> Result<(), AllocError>
-    ensures { OnOk result (page.new.items ≡ page.old.items ++ meant.shown_part shown.now) }
-{
-    if shown.is_empty() {
-        return Ok(());
-    }
-    put_text(
-        page,
-        "<details><summary>sequents</summary><pre>",
-        shown,
-        "</pre></details>",
-    )
 }
 
 // Where it comes from.
@@ -341,6 +338,21 @@ fn write_rules(page: &mut Vec<u8>, script: &Script) -> Result<(), AllocError>
     Ok(())
 }
 
+// What is open of it, folded.
+fn write_shown(page: &mut Vec<u8>, shown: &[u8]) -> Result<(), AllocError>
+    ensures { OnOk result (page.new.items ≡ page.old.items ++ meant.shown_part shown.now) }
+{
+    if shown.is_empty() {
+        return Ok(());
+    }
+    put_text(
+        page,
+        "<tr class=\"shown\"><td colspan=\"4\"><details><summary>sequents</summary><pre>",
+        shown,
+        "</pre></details></td></tr>\n",
+    )
+}
+
 // ---- what else is known
 fn write_strays(page: &mut Vec<u8>, strays: &[Text]) -> Result<(), AllocError>
     ensures { OnOk result (page.new.items ≡ page.old.items ++ meant.strays_part strays.now) }
@@ -348,6 +360,12 @@ fn write_strays(page: &mut Vec<u8>, strays: &[Text]) -> Result<(), AllocError>
     if strays.is_empty() {
         return Ok(());
     }
+    write_stray_list(page, strays)
+}
+
+fn write_stray_list(page: &mut Vec<u8>, strays: &[Text]) -> Result<(), AllocError>
+    ensures { OnOk result (page.new.items ≡ page.old.items ++ meant.stray_list strays.now) }
+{
     put(
         page,
         "<h2>Scripts that belong to no obligation</h2>\n<ul>\n",

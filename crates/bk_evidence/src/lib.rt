@@ -5,6 +5,7 @@ mod claim;
 mod html;
 mod item;
 mod json;
+pub mod laws;
 mod lines;
 mod page;
 mod report;

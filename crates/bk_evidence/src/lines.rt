@@ -143,6 +143,12 @@ fn write_some(text: &mut Vec<u8>, concern: Concern, sums: Sums) -> Result<(), Al
     if sums.obligations == 0 {
         return Ok(());
     }
+    write_named_sums(text, concern, sums)
+}
+
+fn write_named_sums(text: &mut Vec<u8>, concern: Concern, sums: Sums) -> Result<(), AllocError>
+    ensures { OnOk result (text.new.items ≡ text.old.items ++ texts.concern_sums concern sums) }
+{
     write_name(text, concern)?;
     write_sums(text, sums)?;
     Ok(())

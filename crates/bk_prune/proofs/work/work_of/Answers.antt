@@ -8,6 +8,9 @@ use Rattle.bk_prune.specs.Pruned.{obligation_for}
 use Rattle.bk_prune.proofs.Ready.{each_found}
 use Rattle.bk_prune.proofs.work.work_of.Goals as goal
 
+pub ground-requires : goal.ground-requires
+ground-requires c = c.requires.ready.table_is
+
 pub returns-in_default-clause-none : goal.returns-in_default-clause-none
 returns-in_default-clause-none c =
     let list = c.args.proved.list.now in
