@@ -15,11 +15,11 @@ goal_text-requires-clause-replayable g c =
     c.in-Some.ensures ∙ (λ i. find (λ o. bytes_eq (c.as_bytes.ensures.value i) o.name) (c.deref.ensures.value i)) in
     subst (IfFound (λ o. IsReplayable whole.table (named_sequent o).1)) (sym here) (found_each (λ o. IsReplayable whole.table o.1) named_sequent (λ o. bytes_eq c.args.name.now o.name) whole.list.items c.in_ok-whole.ensures.ready.replayable)
 
-pub returns-in-None-clause-told : goal.returns-in-None-clause-told
-returns-in-None-clause-told g c files told =
+pub returns-in_default-clause-told : goal.returns-in_default-clause-told
+returns-in_default-clause-told g c files told =
     let whole = c.in_ok-whole.whole in
     let none : None ≡ find (λ o. bytes_eq c.args.name.now o.name) whole.list.items =
-    c.in-None.ensures ∙ (λ i. find (λ o. bytes_eq (c.as_bytes.ensures.value i) o.name) (c.deref.ensures.value i)) in
+    c.in_default.ensures ∙ (λ i. find (λ o. bytes_eq (c.as_bytes.ensures.value i) o.name) (c.deref.ensures.value i)) in
     let no : None ≡ find (λ o. bytes_eq c.args.name.now o.0) (numbered_obligations whole.project.development) =
     ap (option_map named_sequent) none ∙ (find_map (λ o. bytes_eq c.args.name.now o.0) named_sequent whole.list.items ∙ ap (find (λ o. bytes_eq c.args.name.now o.0)) c.in_ok-whole.ensures.listed) in
     record {

@@ -6,12 +6,12 @@ use Rattle.bk_proof_program.specs.Prunes.{IsPrunedIfNamed}
 use Rattle.bk_proof_program.proofs.Finding.{IfFound, find_map, found_told}
 use Rattle.bk_proof_program.proofs.prune.prune_answer.Goals as goal
 
-pub returns-in-None-clause-told : goal.returns-in-None-clause-told
-returns-in-None-clause-told g c files told =
+pub returns-in_default-clause-told : goal.returns-in_default-clause-told
+returns-in_default-clause-told g c files told =
     let whole = c.in_ok-whole.whole in
     let texts = c.in_ok-whole.ensures.texts files told in
     let none : None ≡ find (λ f. bytes_eq c.args.file.now f.name) whole.files.proofs.items =
-    c.in-None.ensures ∙ (λ i. find (λ f. bytes_eq (c.as_bytes.ensures.value i) f.name) (c.deref.ensures.value i)) in
+    c.in_default.ensures ∙ (λ i. find (λ f. bytes_eq (c.as_bytes.ensures.value i) f.name) (c.deref.ensures.value i)) in
     let no : None ≡ find (λ n. bytes_eq c.args.file.now n) (proof_files texts.named) =
     ap (option_map (λ f. f.name)) none ∙ (find_map (λ n. bytes_eq c.args.file.now n) (λ f. f.name) whole.files.proofs.items ∙ ap (find (λ n. bytes_eq c.args.file.now n)) texts.proof_names) in
     record {
