@@ -13,14 +13,20 @@ pub(crate) fn say_executed(
 ) -> Result<(), Memory> {
     let token = word_at(text, list, index);
     say_quoted(words, token)?;
-    match clause_before(text, list, index) {
-        b"VARIABLES" | b"ABSTRACT_VARIABLES" | b"CONCRETE_VARIABLES" => say_variable(words),
-        b"OPERATIONS" | b"INITIALISATION" => say_code(words, text, list, index),
-        _ => say(
-            words,
-            " has a variable from above that is neither a number, a truth value, an element nor an array of these: refine it by such variables\n",
-        ),
+    let clause = clause_before(text, list, index);
+    if is_one_of(
+        clause,
+        &["VARIABLES", "ABSTRACT_VARIABLES", "CONCRETE_VARIABLES"],
+    ) {
+        return say_variable(words);
     }
+    if is_one_of(clause, &["OPERATIONS", "INITIALISATION"]) {
+        return say_code(words, text, list, index);
+    }
+    say(
+        words,
+        " has a variable from above that is neither a number, a truth value, an element nor an array of these: refine it by such variables\n",
+    )
 }
 
 fn say_variable(words: &mut Vec<u8>) -> Result<(), Memory> {

@@ -423,6 +423,11 @@ fn hint_of(text: &[u8]) -> Option<&'static str> {
     if is_other_notation(text) {
         return Some(" is not read");
     }
+    hint_of_word(text)
+}
+
+// What is said of a word that is meant for another one.
+fn hint_of_word(text: &[u8]) -> Option<&'static str> {
     match text {
         b"CONSTRAINTS" => Some(" is not read: a machine has no parameters"),
         b"DEFINITIONS" => {
