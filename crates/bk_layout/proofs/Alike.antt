@@ -1,8 +1,7 @@
 -- Texts that differ in blanks and line ends alone.
-use Rattle.std.proofs.Common.{◌≡◌, ℕ, ◌<◌, ◌+◌, List, [], ◌∷◌, ◌++◌, take, length, get_or, map, refl, sym, ◌∙◌, ap, subst, arith}
-use Rattle.std.proofs.lemmas.List.{take_more, take_all, map-append}
+use Rattle.std.proofs.Common.{◌≡◌, ℕ, ◌<◌, ◌+◌, List, [], ◌∷◌, ◌++◌, take, length, get_or, refl, sym, ◌∙◌, ap}
+use Rattle.std.proofs.lemmas.List.{take_more, map-append}
 use Rattle.bk_form.specs.declared.token.Token.{Token}
-use Rattle.bk_form.specs.declared.token.TokenKind.{TokenKind}
 use Rattle.bk_lex.specs.Lexis.{AreTokens}
 use Rattle.bk_lex.specs.Laws.{TokensAreOne}
 use Rattle.bk_layout.specs.Laid.{IsLaidOut, solid, kinds}

@@ -1,5 +1,5 @@
 -- Rules go as far as they go, and the kernel's verdict follows.
-use Rattle.std.proofs.Common.{◌≡◌, ◌⊎◌, inl, inr, ℕ, zero, suc, ◌+◌, ◌-◌, ◌<◌, ◌≤◌, ◌^◌, min, true, false, cond, nat_lt, List, [], ◌∷◌, ◌++◌, take, length, get_or, refl, sym, ◌∙◌, ap, subst, arith, Result, Ok, Err, IfOk, map, reverse}
+use Rattle.std.proofs.Common.{◌≡◌, ◌⊎◌, inl, inr, ℕ, zero, suc, ◌+◌, ◌-◌, ◌<◌, ◌≤◌, true, false, cond, nat_lt, List, [], ◌∷◌, ◌++◌, take, length, get_or, refl, sym, ◌∙◌, ap, subst, arith, Result, Ok, Err, IfOk, map, reverse}
 use Rattle.std.specs.Prelude.{Some, slice_get}
 use Rattle.std.proofs.lemmas.Bool.Decides.{nat_tests}
 use Rattle.std.proofs.lemmas.List.{take_all, map-append, reverse-append}
@@ -9,8 +9,6 @@ use Rattle.bk_seq.specs.Paths.{numbered_item}
 use Rattle.bk_seq.specs.declared.sequent.Sequent.{Sequent as StoredSequent}
 use Rattle.bk_seq.specs.Sequents.{Sequent, sequent_of}
 use Rattle.bk_kernel.specs.declared.rule.Rule.{Rule}
-use Rattle.bk_kernel.specs.declared.replaying.Verdict.{Verdict}
-use Rattle.bk_kernel.specs.declared.replaying.Verdict.TheVariants.{Closed, BadStep, Open, Extra}
 use Rattle.bk_kernel.specs.Rules.{IsInstance}
 use Rattle.bk_kernel.specs.Derivations.{Leaves, IsVerdict}
 use Rattle.bk_kernel.specs.Standing.{in_order, at_end}
