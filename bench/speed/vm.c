@@ -1,10 +1,11 @@
 /* The table of instructions in plain C, without checks of the code: the measure for the proved runner.
  *
- *   cc -O2 -o vm vm.c
+ *   cc -O2 -o vm vm.c              the range is a variable
+ *   cc -O2 -DCONSTANT -o vm vm.c   it is that of 2147483647, a part of the machine instructions
  *   ./vm loop             runs a table and prints its steps and the processor's seconds
  *   ./vm loop image       writes the same table as an image whose one operation has this code
  *
- * A number behind these is the range's, 2147483647 where there is none.
+ * A number behind these is the range's, 2147483647 where there is none. Images have it in both.
  */
 #include <stdint.h>
 #include <stdio.h>
@@ -18,6 +19,11 @@ enum { PUSH = 1, LOAD, STORE, ALOAD, ASTORE, ADD, MUL = 8, LT = 0x0D, JUMP = 0x1
 typedef struct { int op; uint32_t count; int64_t number, low; } Inst;
 
 #define USUAL 2147483647
+#ifdef CONSTANT
+#define MAX USUAL
+#else
+#define MAX max
+#endif
 #define CELLS 1002
 
 /* cell 0 counts to 11111111: nine instructions a turn */
@@ -60,7 +66,7 @@ static const Inst multiply[] = {
 static int64_t stack[1000], cells[CELLS];
 
 /* The steps up to the Ret; 0 at a trap. */
-static inline __attribute__((always_inline)) uint64_t run_in(const Inst *code, const int64_t max) {
+static uint64_t run(const Inst *code, int64_t max) {
     uint64_t steps = 0;
     int depth = 0, place = 0;
     for (;;) {
@@ -82,13 +88,13 @@ static inline __attribute__((always_inline)) uint64_t run_in(const Inst *code, c
         }
         case ADD: {
             int64_t sum = stack[depth - 2] + stack[depth - 1];
-            if (sum > max || sum < -max) return 0;
+            if (sum > MAX || sum < -MAX) return 0;
             depth--; stack[depth - 1] = sum; place++; break;
         }
         case MUL: {
             int64_t product;
             if (__builtin_mul_overflow(stack[depth - 2], stack[depth - 1], &product)) return 0;
-            if (product > max || product < -max) return 0;
+            if (product > MAX || product < -MAX) return 0;
             depth--; stack[depth - 1] = product; place++; break;
         }
         case LT: depth--; stack[depth - 1] = stack[depth - 1] < stack[depth]; place++; break;
@@ -97,11 +103,6 @@ static inline __attribute__((always_inline)) uint64_t run_in(const Inst *code, c
         case RET: return steps;
         }
     }
-}
-
-/* The usual range is a part of the machine instructions, as in the proved runner. */
-static uint64_t run(const Inst *code, int64_t max) {
-    return max == USUAL ? run_in(code, USUAL) : run_in(code, max);
 }
 
 static void put(uint64_t number, int bytes) {

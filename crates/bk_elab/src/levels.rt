@@ -117,12 +117,11 @@ pub struct Added {
     pub values: Vec<(u32, Form)>,
 }
 
-/// A component with the levels above it, and with what stands where nothing is written.
+/// A component with the levels above it.
 #[derive(Clone, Copy)]
 pub struct Given<'a> {
     pub above: Above<'a>,
     pub component: &'a Component<'a>,
-    pub blank: &'a Blank,
 }
 
 // What the component adds to these levels, and the first of its faults.
@@ -142,18 +141,19 @@ fn part_of(
     ensures fault { IfOk result (λ p. told p.fault ≡
         blame (meant.all_faults max (above_shown above.entry) (component_shown component.now))) }
 {
-    let given = Given {
-        above,
-        component,
-        blank,
-    };
-    let part = part_given(alloc, max, given)?;
+    let given = Given { above, component };
+    let part = part_given(alloc, max, given, blank)?;
     Ok(part)
 }
 
-// The same of what is given.
-fn part_given(alloc: Global, max: i64, given: Given<'_>) -> Result<Judged, Memory>
-    requires blank { is_blank given.component.now.at given.blank.now }
+// The same of what is given, with what stands where nothing is written.
+fn part_given<'a>(
+    alloc: Global,
+    max: i64,
+    given: Given<'a>,
+    blank: &'a Blank,
+) -> Result<Judged, Memory>
+    requires blank { is_blank given.component.now.at blank.now }
     requires alone { is_machine given.component.now.kind ≡ true → above_shown given.above ≡ no_development }
     requires homes { HomesAreThere (above_shown given.above) }
     requires all_at_home { length (above_shown given.above).homes ≡ length (above_shown given.above).table.variables }
@@ -164,7 +164,6 @@ fn part_given(alloc: Global, max: i64, given: Given<'_>) -> Result<Judged, Memor
 {
     let above = given.above;
     let component = given.component;
-    let blank = given.blank;
     let plan = Plan::of(alloc, above, component, blank)?;
     let ways = all_ways(alloc, &plan, component, blank)?;
     let known = above.types(alloc)?;

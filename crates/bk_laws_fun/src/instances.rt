@@ -25,7 +25,7 @@ pub fn instance(alloc: Global, law: u16, picks: &[Form]) -> Result<LawInstance, 
         ((row : Row) × (row_named rows law ≡ Some row) × IsFault row picks.now k) }
 {
     let table = all_laws();
-    match bk_laws::instance(alloc, &table.patterns, &table.laws, law, picks) {
+    match bk_laws::instance(alloc, table.patterns, table.laws, law, picks) {
         Ok(Found::NoLaw) => Err(LawFault::Unknown),
         Ok(Found::WrongPicks(number)) => Err(LawFault::Picks(number)),
         Ok(Found::Made { sides, left, right }) => Ok(LawInstance { sides, left, right }),

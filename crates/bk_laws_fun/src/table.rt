@@ -10,17 +10,17 @@ use bk_ops::{Law, Pat};
 // Patterns, each told by its number in the list, and laws over them.
 #[derive(Drop)]
 pub(crate) struct Table {
-    pub(crate) patterns: [Pat; 212],
-    pub(crate) laws: [Law; 65],
+    pub(crate) patterns: &'static [Pat; 212],
+    pub(crate) laws: &'static [Law; 65],
 }
 
 // The table.
 pub(crate) fn all_laws() -> Table
-    ensures { rows_of result.patterns result.laws ≡ rows }
+    ensures { rows_of result.patterns.now result.laws.now ≡ rows }
 {
     Table {
-        patterns: PATTERNS,
-        laws: LAWS,
+        patterns: &PATTERNS,
+        laws: &LAWS,
     }
 }
 

@@ -1,25 +1,28 @@
 use Rattle.bk_elab_terms.proofs.Conjoined.{clue-taken, clues-both-done, ranges-both-done, count-both-done, count-one, where-done, body-none, body-some}
 use Rattle.bk_elab_terms.proofs.Forms.{two-parts-done}
+use Rattle.bk_elab_terms.proofs.Quantified.{premise-missing}
 use Rattle.bk_elab_terms.proofs.Ranging.{next-ranges, next-faults}
 use Rattle.bk_elab_terms.proofs.Readings.{stands-through}
-use Rattle.bk_elab_terms.proofs.Remembered.{clue-untold, clue-stays, kept-both, kept-more, range-lasting, range-stays, kept-ranges, kept-ranged, side-joined, one-read, both-read, kept-served, body-served, rest-both-kept, left-both-kept, rest-idle, rest-added, left-alone, kept-pushed}
-use Rattle.bk_elab_terms.specs.Conjuncts.{shown_pair, shown_infix}
+use Rattle.bk_elab_terms.proofs.Remembered.{clue-untold, clue-stays, kept-both, kept-more, range-lasting, range-stays, kept-ranges, kept-ranged, side-joined, one-read, one-left, both-read, kept-served, body-served, rest-both-kept, left-both-kept, rest-idle, rest-added, left-alone, kept-pushed}
+use Rattle.bk_elab_terms.specs.Conjuncts.{implies_sides, shown_pair, shown_infix}
 use Rattle.bk_elab_terms.specs.Forms.{two_reading}
 use Rattle.bk_elab_terms.specs.Kept.{names_untyped, dollar_untyped, has_unsettled, IsKept, AreKept}
 use Rattle.bk_elab_terms.specs.Shown.{IsRead}
-use Rattle.bk_elab_terms.specs.Sights.{around_of, bounds_of, bounds_from, ranges_as, IsRest, TellsType, TellsRange, names_of, read_by}
+use Rattle.bk_elab_terms.specs.Sights.{around_of, bounds_of, bounds_from, clues_by, ranges_as, IsRest, Stands, TellsType, TellsRange, names_below, names_of, read_by}
 use Rattle.bk_elab_terms.specs.declared.binder.Ranged.{Ranged}
 use Rattle.bk_elab_terms.specs.declared.form.TwoParts.TheVariants.{Infix}
 use Rattle.bk_elab_terms.specs.declared.outcome.Step.{Step}
 use Rattle.bk_elab_terms.specs.declared.sight.Local.{Local}
+use Rattle.bk_elab_terms.specs.declared.sight.Reader.{Reader}
 use Rattle.bk_raw.specs.Meaning.Binders.{with_conjunct, bound_names}
 use Rattle.bk_raw.specs.Trees.FreeNames.{conjuncts}
+use Rattle.bk_raw.specs.Trees.RawTree.{RawTree}
 use Rattle.bk_raw.specs.Meaning.Outcome.{Reading}
 use Rattle.bk_raw.specs.Meaning.TermReading.{place_of}
 use Rattle.bk_raw.specs.declared.operator.InfixOp.TheVariants.{And}
-use Rattle.std.proofs.Common.{◌≡◌, List, drop, sym, ◌∙◌, ap, subst, rules, arith, length, not, ◌&&◌, ℕ, IfOk, ◌++◌, []}
+use Rattle.std.proofs.Common.{◌≡◌, Bool, true, List, Result, Ok, Err, drop, sym, ◌∙◌, ap, subst, rules, arith, length, not, ◌&&◌, ℕ, IfOk, ◌++◌, []}
 use Rattle.std.proofs.lemmas.List.{take_rest}
-use Rattle.std.specs.Prelude.{Option, Some}
+use Rattle.std.specs.Prelude.{Option, None, Some, OnOk}
 use Rattle.bk_elab_terms.proofs.sight.Reader.+reading.Goals as goal
 
 pub numbered_ranges-loop-index-preserved : goal.numbered_ranges-loop-index-preserved
@@ -131,12 +134,26 @@ pub conjunction-returns-in_default-clause-read : goal.conjunction-returns-in_def
 conjunction-returns-in_default-clause-read t c =
     one-read c.conjunct.result c.args.self.now c.args.term.now c.next_kept-side.result c.args.kept.now.items (sym c.and_sides.ensures ∙ ap shown_pair c.in_default.is) c.next_kept-side.ensures.next c.conjunct.ensures.read
 
+pub conjunction-returns-in_default-clause-kept : goal.conjunction-returns-in_default-clause-kept
+conjunction-returns-in_default-clause-kept t c =
+    one-left c.conjunct.result c.args.self.now c.args.term.now c.args.kept.now.items c.next_kept-side.new.kept.items (sym c.and_sides.ensures ∙ ap shown_pair c.in_default.is) c.next_kept-side.ensures.rest
+
 pub conjunction-returns-clause-read : goal.conjunction-returns-clause-read
 conjunction-returns-clause-read t c =
     both-read c.with_parts.result c.args.self.now c.conjunction.new.self c.args.term.now c.in-Some.left.now c.in-Some.right.now c.in_ok-one.one c.in_ok-other.other c.args.kept.now.items c.conjunction.new.kept.items
     (sym c.and_sides.ensures ∙ ap shown_pair c.in-Some.is) c.in_ok-one.ensures.stands c.in_ok-one.ensures.read c.in_ok-one.ensures.kept c.in_ok-other.ensures.read
     (subst (λ (n : ℕ). IfOk c.with_parts.result (λ s. (q p : Reading) → IsRead c.in_ok-one.one q → IsRead c.in_ok-other.other p → IsRead s (two_reading (Infix And) n c.in-Some.left.now c.in-Some.right.now q p)))
     (ap place_of c.term.view_is) c.with_parts.ensures)
+
+-- a body that is no implication types no name
+premise-alone : {A E : Type 0} (r : Result A E) (universal : Bool) (first : ℕ) (old new : Reader) (t : RawTree) → universal ≡ true → implies_sides t ≡ None → OnOk r (Stands old new) → OnOk r (bounds_from first new ≡ clues_by universal (around_of old).max (names_below first old) (bounds_from first old) t)
+premise-alone (Err x) universal first old new t u k h = tt
+premise-alone (Ok x) universal first old new t u k h =
+    ap (λ (ls : List Local). bounds_of (drop first ls)) h.locals ∙ (premise-missing first old t k ∙ ap (λ (b : Bool). clues_by b (around_of old).max (names_below first old) (bounds_from first old) t) (sym u))
+
+pub typed_body-returns-in_default-clause-clues : goal.typed_body-returns-in_default-clause-clues
+typed_body-returns-in_default-clause-clues t c =
+    premise-alone c.read.result c.args.universal c.args.first c.args.self.now c.read.new.self c.args.body.now c.if-not-universal.false (sym c.implies_sides.ensures ∙ ap shown_pair c.in_default.is) c.read.ensures.stands
 
 pub typed_conjunction-returns-clause-read : goal.typed_conjunction-returns-clause-read
 typed_conjunction-returns-clause-read t c =
