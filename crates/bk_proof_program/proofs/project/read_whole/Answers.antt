@@ -22,9 +22,9 @@ returns-in_err-files-clause-cause g c =
     (search rules)
     (λ stop h files told. at_project files c.args.name.now stop (h files (c.read_project.ensures.files ∙ told)))
 
-pub returns-in_err-obligations_with-clause-cause : goal.returns-in_err-obligations_with-clause-cause
-returns-in_err-obligations_with-clause-cause g c =
-    widen c.from_residual-in_err-obligations_with.result
+pub returns-in_err-list-clause-cause : goal.returns-in_err-list-clause-cause
+returns-in_err-list-clause-cause g c =
+    widen c.from_residual-in_err-list.result
     (λ stop. IsOutside stop ⊎ StopsPastLimits c.args.name.now c.in_ok-project.project.development stop)
     (λ stop. (files : Files) → g.H.Shelf.files c.args.shelf.now ≡ Some files → IsOutside stop ⊎ StopsTask files (status_task c.args.name.now) stop)
     (search rules)
