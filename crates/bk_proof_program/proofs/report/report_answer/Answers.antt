@@ -2,8 +2,9 @@ use Rattle.std.proofs.Common.{◌≡◌, ◌⊎◌, ◌∙◌, Some, subst, sym,
 use Rattle.bk_cli.specs.Tasks.{status_task}
 use Rattle.bk_io.specs.Files.{Files}
 use Rattle.bk_status.specs.Rows.{HasRows}
+use Rattle.bk_verbs.specs.Causes.{IsOfReading}
 use Rattle.bk_verbs.specs.Stops.{IsOutside, StopsPastLimits, StopsTask}
-use Rattle.bk_verbs.proofs.Stopping.{widen}
+use Rattle.bk_verbs.proofs.Stopping.{widen, handed_on, checks_read}
 use Rattle.bk_proof_program.proofs.Causes.{at_limits}
 use Rattle.bk_proof_program.proofs.report.report_answer.Goals as goal
 
@@ -40,3 +41,7 @@ returns-clause-told g c files told =
         writes = written.3;
       },
     )
+
+pub returns-in_err-table-clause-reading : goal.returns-in_err-table-clause-reading
+returns-in_err-table-clause-reading g c =
+    handed_on c.from_residual-in_err-table.result c.in_err-table.field-0.0 IsOfReading c.from_residual-in_err-table.ensures.1 (checks_read c.in_err-table.field-0.0 c.in_err-table.ensures.checks)
