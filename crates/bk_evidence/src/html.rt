@@ -159,7 +159,8 @@ fn write_concern(page: &mut Vec<u8>, items: &[Item], concern: Concern) -> Result
     ensures { OnOk result (page.new.items ≡ page.old.items ++ meant.concern_part concern (counts.sums_with concern items.now)) }
 {
     let sums = sums_with(items, concern);
-    write_some(page, concern, sums)
+    write_some(page, concern, sums)?;
+    Ok(())
 }
 
 fn write_some(page: &mut Vec<u8>, concern: Concern, sums: Sums) -> Result<(), AllocError>
@@ -168,7 +169,8 @@ fn write_some(page: &mut Vec<u8>, concern: Concern, sums: Sums) -> Result<(), Al
     if sums.obligations == 0 {
         return Ok(());
     }
-    write_concern_row(page, concern, sums)
+    write_concern_row(page, concern, sums)?;
+    Ok(())
 }
 
 fn write_concern_row(page: &mut Vec<u8>, concern: Concern, sums: Sums) -> Result<(), AllocError>
@@ -200,7 +202,8 @@ fn write_rows(
     ensures { OnOk result (page.new.items ≡ page.old.items ++ meant.rows_part settled items.now) }
 {
     let rows = rows_text(alloc, items, settled)?;
-    write_table(page, settled, &rows)
+    write_table(page, settled, &rows)?;
+    Ok(())
 }
 
 fn rows_text(alloc: Global, items: &[Item], settled: bool) -> Result<Vec<u8>, AllocError>
@@ -216,9 +219,10 @@ fn rows_text(alloc: Global, items: &[Item], settled: bool) -> Result<Vec<u8>, Al
 fn write_if_asked(page: &mut Vec<u8>, item: &Item, settled: bool) -> Result<(), AllocError>
     ensures { OnOk result (page.new.items ≡ page.old.items ++ meant.asked_row settled item.now) }
 {
-    if is_asked(item.state, settled) {
-        return write_row(page, item);
+    if !is_asked(item.state, settled) {
+        return Ok(());
     }
+    write_row(page, item)?;
     Ok(())
 }
 
@@ -240,7 +244,8 @@ fn write_table(page: &mut Vec<u8>, settled: bool, rows: &[u8]) -> Result<(), All
     if rows.is_empty() {
         return Ok(());
     }
-    write_whole_table(page, settled, rows)
+    write_whole_table(page, settled, rows)?;
+    Ok(())
 }
 
 fn write_whole_table(page: &mut Vec<u8>, settled: bool, rows: &[u8]) -> Result<(), AllocError>
@@ -350,7 +355,8 @@ fn write_shown(page: &mut Vec<u8>, shown: &[u8]) -> Result<(), AllocError>
         "<tr class=\"shown\"><td colspan=\"4\"><details><summary>sequents</summary><pre>",
         shown,
         "</pre></details></td></tr>\n",
-    )
+    )?;
+    Ok(())
 }
 
 // ---- what else is known
@@ -360,7 +366,8 @@ fn write_strays(page: &mut Vec<u8>, strays: &[Text]) -> Result<(), AllocError>
     if strays.is_empty() {
         return Ok(());
     }
-    write_stray_list(page, strays)
+    write_stray_list(page, strays)?;
+    Ok(())
 }
 
 fn write_stray_list(page: &mut Vec<u8>, strays: &[Text]) -> Result<(), AllocError>

@@ -41,7 +41,8 @@ fn write_if_asked(text: &mut Vec<u8>, item: &Item, is_open_only: bool) -> Result
     if is_left_out(item, is_open_only) {
         return Ok(());
     }
-    write_item(text, item)
+    write_item(text, item)?;
+    Ok(())
 }
 
 fn write_item(text: &mut Vec<u8>, item: &Item) -> Result<(), AllocError>
@@ -134,7 +135,8 @@ fn write_concern(text: &mut Vec<u8>, items: &[Item], concern: Concern) -> Result
     ensures { OnOk result (text.new.items ≡ text.old.items ++ texts.concern_line concern (meant.sums_with concern items.now)) }
 {
     let sums = sums_with(items, concern);
-    write_some(text, concern, sums)
+    write_some(text, concern, sums)?;
+    Ok(())
 }
 
 fn write_some(text: &mut Vec<u8>, concern: Concern, sums: Sums) -> Result<(), AllocError>
@@ -143,7 +145,8 @@ fn write_some(text: &mut Vec<u8>, concern: Concern, sums: Sums) -> Result<(), Al
     if sums.obligations == 0 {
         return Ok(());
     }
-    write_named_sums(text, concern, sums)
+    write_named_sums(text, concern, sums)?;
+    Ok(())
 }
 
 fn write_named_sums(text: &mut Vec<u8>, concern: Concern, sums: Sums) -> Result<(), AllocError>
