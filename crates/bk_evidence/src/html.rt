@@ -33,7 +33,8 @@ pub fn html_page(alloc: Global, report: &Report) -> Result<Vec<u8>, Memory>
 fn put(page: &mut Vec<u8>, text: &str) -> Result<(), AllocError>
     ensures { OnOk result (page.new.items ≡ page.old.items ++ text.now) }
 {
-    page.extend_from_slice(text.as_bytes())
+    page.extend_from_slice(text.as_bytes())?;
+    Ok(())
 }
 
 // A byte of a text, of which marks of HTML stand as their names.

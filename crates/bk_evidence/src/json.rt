@@ -20,7 +20,6 @@ use serde_json::{Map, Value, put};
 use std::alloc::Global;
 
 /// The report as JSON on one line. It reads back as the data that it was written of.
-#[tactic(auto, using(crate::proofs::Depths::report_nests))]
 pub fn json_text(alloc: Global, report: &Report) -> Result<Vec<u8>, Memory>
     ensures { IfOk result (λ text. read text.items ≡ Some (report_data report.now)) }
 {
@@ -29,7 +28,6 @@ pub fn json_text(alloc: Global, report: &Report) -> Result<Vec<u8>, Memory>
 }
 
 /// The obligations alone, or those that are open.
-#[tactic(auto, using(crate::proofs::Depths::items_nest))]
 pub fn items_json(alloc: Global, items: &[Item], is_open_only: bool) -> Result<Vec<u8>, Memory>
     ensures { IfOk result (λ text. read text.items ≡ Some (items_data is_open_only items.now)) }
 {
@@ -45,7 +43,6 @@ fn value_text(alloc: Global, value: &Value) -> Result<Vec<u8>, Memory>
     Ok(value.to_vec(alloc)?)
 }
 
-#[tactic(auto, using(crate::proofs::Views::view_object))]
 fn report_value(alloc: Global, report: &Report) -> Result<Value, Memory>
     ensures { IfOk result (λ v. view v ≡ report_data report.now) }
 {
@@ -83,7 +80,6 @@ fn about_map(alloc: Global, report: &Report) -> Result<Map<String, Value>, Memor
     Ok(map)
 }
 
-#[tactic(auto, using(crate::proofs::Views::view_list))]
 fn inputs_value(alloc: Global, inputs: &[Input]) -> Result<Value, Memory>
     ensures { IfOk result (λ v. view v ≡ inputs_data inputs.now) }
 {
@@ -94,7 +90,6 @@ fn inputs_value(alloc: Global, inputs: &[Input]) -> Result<Value, Memory>
     Ok(Value::Array(list))
 }
 
-#[tactic(auto, using(crate::proofs::Views::view_object))]
 fn input_value(alloc: Global, input: &Input) -> Result<Value, Memory>
     ensures { IfOk result (λ v. view v ≡ input_data input.now) }
 {
@@ -105,7 +100,6 @@ fn input_value(alloc: Global, input: &Input) -> Result<Value, Memory>
     Ok(Value::Object(map))
 }
 
-#[tactic(auto, using(crate::proofs::Views::view_list))]
 fn items_value(alloc: Global, items: &[Item], is_open_only: bool) -> Result<Value, Memory>
     ensures { IfOk result (λ v. view v ≡ items_data is_open_only items.now) }
 {
@@ -116,7 +110,6 @@ fn items_value(alloc: Global, items: &[Item], is_open_only: bool) -> Result<Valu
     Ok(Value::Array(list))
 }
 
-#[tactic(auto, using(crate::proofs::Views::view_more))]
 fn push_if_asked(
     alloc: Global,
     list: &mut Vec<Value>,
@@ -132,7 +125,6 @@ fn push_if_asked(
     Ok(())
 }
 
-#[tactic(auto, using(crate::proofs::Views::view_object))]
 fn item_value(alloc: Global, item: &Item) -> Result<Value, Memory>
     ensures { IfOk result (λ v. view v ≡ item_data item.now) }
 {
@@ -165,7 +157,6 @@ fn script_value(alloc: Global, script: &Option<Script>) -> Result<Value, Memory>
     }
 }
 
-#[tactic(auto, using(crate::proofs::Views::view_object))]
 fn script_object(alloc: Global, script: &Script) -> Result<Value, Memory>
     ensures { IfOk result (λ v. view v ≡ script_data (Some script.now)) }
 {
@@ -175,7 +166,6 @@ fn script_object(alloc: Global, script: &Script) -> Result<Value, Memory>
     Ok(Value::Object(map))
 }
 
-#[tactic(auto, using(crate::proofs::Views::view_list))]
 fn texts_value(alloc: Global, texts: &[Text]) -> Result<Value, Memory>
     ensures { IfOk result (λ v. view v ≡ texts_data texts.now) }
 {
@@ -186,7 +176,6 @@ fn texts_value(alloc: Global, texts: &[Text]) -> Result<Value, Memory>
     Ok(Value::Array(list))
 }
 
-#[tactic(auto, using(crate::proofs::Views::view_object))]
 fn sums_value(alloc: Global, sums: Sums) -> Result<Value, Memory>
     ensures { IfOk result (λ v. view v ≡ sums_data sums) }
 {
@@ -199,7 +188,6 @@ fn sums_value(alloc: Global, sums: Sums) -> Result<Value, Memory>
 }
 
 // The sums of each kind.
-#[tactic(auto, using(crate::proofs::Views::view_object))]
 fn kinds_value(alloc: Global, items: &[Item]) -> Result<Value, Memory>
     ensures { IfOk result (λ v. view v ≡ kinds_data items.now) }
 {
@@ -233,7 +221,6 @@ fn kinds_value(alloc: Global, items: &[Item]) -> Result<Value, Memory>
     Ok(Value::Object(map))
 }
 
-#[tactic(auto, using(crate::proofs::Views::view_object))]
 fn claims_value(alloc: Global, claims: Claims) -> Result<Value, Memory>
     ensures { IfOk result (λ v. view v ≡ claims_data claims.entry) }
 {

@@ -1,0 +1,4 @@
+use Rattle.bk_evidence.proofs.item.item_of.Goals as goal
+
+pub returns : goal.returns
+returns c = λ i. record { name = c.in_ok-name.ensures i; state = c.args.row.now.state }
