@@ -1,8 +1,9 @@
 -- How the program ends, and what it has then written.
-use Rattle.std.proofs.Common.{◌≡◌, ◌⊎◌, inl, inr, ◌∙◌, ℕ, List, [], ◌++◌, Bool, Bor, Option, Some, None, refl, sym, ap, subst}
+use Rattle.std.proofs.Common.{◌≡◌, ◌⊎◌, inl, inr, ◌∙◌, ℕ, List, [], ◌++◌, Option, Some, None, refl, sym, ap, subst}
 use Rattle.std.proofs.lemmas.List.{append-nil, append_assoc}
 use Rattle.bk_io.specs.Files.{Files}
 use Rattle.bk_io.specs.Pieces.{written_with}
+use Rattle.bk_verbs.specs.Causes.{IsOfReading}
 use Rattle.bk_verbs.specs.Stops.{IsCutShort, IsOutside, Reports, status_of_stop, stop_text}
 use Rattle.bk_verbs.specs.declared.stop.Stop.{Stop}
 use Rattle.bk_verbs.specs.declared.stop.Stop.TheVariants as stops
@@ -11,11 +12,9 @@ use Rattle.bk_verbs.specs.declared.status.Status.TheVariants.{Done, Usage, Missi
 use Rattle.bk_proof_words.specs.Tasks.{Asks}
 use Rattle.bk_proof_words.specs.declared.task.Task.{Task}
 use Rattle.bk_proof_program.specs.Answers.{IsSaid}
-use Rattle.bk_proof_words.specs.declared.task.Task.TheVariants.{Explain}
-use Rattle.bk_proof_program.specs.Explained.{task_with}
-use Rattle.bk_proof_program.specs.Said.{AnswersTask, IsExplanation, IsToldAnswer, IsWritten, StopsAnswer, StopsWords, TellsStop}
-use Rattle.bk_proof_program.specs.declared.program.Answer.{Answer}
-use Rattle.bk_proof_program.specs.declared.program.Answer.TheVariants.{Whole, Explained}
+use Rattle.bk_proof_program.specs.Said.{AnswersTask, IsToldAnswer, IsWritten, StopsAnswer, StopsWords, TellsStop, WritesAnswer, WritesStop}
+use Rattle.bk_proof_program.specs.declared.answer.Answer.{Answer}
+use Rattle.bk_proof_program.specs.declared.answer.Answer.TheVariants.{Whole, Explained}
 use Rattle.bk_proof_program.specs.declared.help.TheConstants.{USAGE}
 
 -- what may be cut short is said with no such status
@@ -62,10 +61,35 @@ stop_told stop old middle new status words (inl h) e = inr (record {
 })
 stop_told stop old middle new status words (inr h) e = inl h.0
 
--- what `explain` answers is an answer to its task
-pub explained_told : (files : Files) (file : Bor (List ℕ)) (calls : Option (Bor (List ℕ))) (is_image : Bool) (a : Answer) → IsExplanation files (task_with file.now is_image calls) a → IsToldAnswer files (Explain file calls is_image) a
-explained_told files file calls is_image (Whole text status) h = h
-explained_told files file calls is_image (Explained stop text) h = h
+-- ---- faults of devices
+-- a stop with the status of a read fault is one
+read_stop : (stop : Stop) → status_of_stop stop ≡ ReadFault → stop ≡ stops.ReadFault
+read_stop stops.Usage e = cc
+read_stop (stops.Missing name) e = cc
+read_stop (stops.Refused fault at name) e = cc
+read_stop (stops.Limit limit name) e = cc
+read_stop (stops.Unproved name) e = cc
+read_stop (stops.Incomplete name) e = cc
+read_stop (stops.BadCalls line) e = cc
+read_stop (stops.BadImage fault) e = cc
+read_stop stops.ReadFault e = refl
+read_stop stops.WriteFault e = cc
+read_stop stops.Memory e = cc
+
+pub reports_read : (stop : Stop) (status : Status) (old new : Option (List ℕ)) → Reports stop status old new → status ≡ ReadFault → stop ≡ stops.ReadFault
+reports_read stop status old new (inl h) e = read_stop stop (sym h.0 ∙ e)
+reports_read stop status old new (inr h) e = absurd (subst IsCutShort e h.0)
+
+-- what reading stops with, or wrong words, is no fault of writing
+pub not_of_writing : (stop : Stop) → IsOfReading stop ⊎ (stop ≡ stops.Usage) → stop ≡ stops.WriteFault → ⊥
+not_of_writing stop (inl h) e = subst IsOfReading e h
+not_of_writing stop (inr u) e = let k : stops.Usage ≡ stops.WriteFault = sym u ∙ e in cc
+
+pub usage_is_no_read_fault : Usage ≡ ReadFault → ⊥
+usage_is_no_read_fault e = cc
+
+pub usage_is_no_write_fault : Usage ≡ WriteFault → ⊥
+usage_is_no_write_fault e = cc
 
 -- ---- what is written at an end
 module _ (files : Files) (words : List (List ℕ)) (old new : Option (List ℕ)) (status : Status) (said : IsSaid status) where
@@ -105,3 +129,12 @@ module _ (files : Files) (words : List (List ℕ)) (old new : Option (List ℕ))
   usage_written text e (inl o) (inr k) = absurd o
   usage_written text e (inr (inl w)) (inr k) = inr (inr (record { nothing = w.1; ends = k.0; written = k.1 ∙ ap (written_with old) e }))
   usage_written text e (inr (inr c)) (inr k) = absurd c.0
+
+  -- ---- what comes of an answer, and of a stop
+  pub answer_at_end : (a : Answer) → ((task : Task) × Asks words task × IsToldAnswer files task a) → WritesAnswer a old new status → IsWritten files words old new status
+  answer_at_end (Whole text ends) told h = answer_written text.items ends told h
+  answer_at_end (Explained stop text) told h = words_written stop told h
+
+  pub stop_at_end : (stop : Stop) → IsOutside stop ⊎ StopsWords files words stop → WritesStop stop old new status → IsWritten files words old new status
+  stop_at_end stop h (inl w) = usage_written USAGE.now refl (subst (λ s. IsOutside s ⊎ StopsWords files words s) w.0 h) w.1
+  stop_at_end stop h (inr w) = stop_written stop w.0 h w.1

@@ -4,8 +4,8 @@ use Rattle.bk_verbs.specs.Causes.{IsOfReading}
 use Rattle.bk_verbs.specs.declared.status.Status.{Status}
 use Rattle.bk_verbs.specs.declared.status.Status.TheVariants.{Done, Usage, Unproved, ReadFault as ReadFaultStatus, WriteFault, Memory}
 use Rattle.bk_verbs.specs.declared.stop.Stop.TheVariants.{ReadFault}
-use Rattle.bk_proof_program.specs.declared.program.Answer.{Answer}
-use Rattle.bk_proof_program.specs.declared.program.Answer.TheVariants.{Whole, Explained}
+use Rattle.bk_proof_program.specs.declared.answer.Answer.{Answer}
+use Rattle.bk_proof_program.specs.declared.answer.Answer.TheVariants.{Whole, Explained}
 
 -- nothing is left, something is, or the words were wrong
 abbrev pub IsEnd : Status → Type 0

@@ -1,5 +1,5 @@
 -- What `goal` answers.
-use Rattle.std.specs.Prelude.{◌≡◌, ℕ, Bool, true, false, List, Option, Some, None, option_map, find}
+use Rattle.std.specs.Prelude.{◌≡◌, ℕ, Bool, true, cond, List, Option, Some, None, option_map, find}
 use Rattle.std.specs.Str.{bytes_eq}
 use Rattle.bk_io.specs.Files.{Files}
 use Rattle.bk_dev.specs.Development.{Development}
@@ -16,8 +16,7 @@ use Rattle.bk_verbs.specs.declared.status.Status.TheVariants.{Done, Usage, Unpro
 
 -- done where nothing is open
 abbrev pub status_by : Bool → Status
-status_by true = Unproved
-status_by false = Done
+status_by is_open = cond is_open Unproved Done
 
 -- of the obligation with this name the text shows what is open behind the rules that are asked for of the script with its name; words for
 -- no obligation are wrong

@@ -1,5 +1,5 @@
 -- What the program writes.
-use Rattle.std.specs.Prelude.{◌≡◌, ◌⊎◌, ℕ, List, ◌++◌, Option, Some, codes}
+use Rattle.std.specs.Prelude.{◌≡◌, ◌≢◌, ◌⊎◌, ℕ, List, ◌++◌, Option, Some, codes}
 use Rattle.bk_io.specs.Files.{Files}
 use Rattle.bk_io.specs.Pieces.{written_with}
 use Rattle.bk_io.specs.Counts.{Rose}
@@ -7,7 +7,7 @@ use Rattle.bk_cli.specs.Tasks.{Task as Command, status_task}
 use Rattle.bk_verbs.specs.Causes.{IsOfReading}
 use Rattle.bk_verbs.specs.Codes.{code_of}
 use Rattle.bk_verbs.specs.Prepared.{IsPrepared}
-use Rattle.bk_verbs.specs.Stops.{IsOutside, StopsTask, stop_text, status_of_stop}
+use Rattle.bk_verbs.specs.Stops.{IsCutShort, IsOutside, Reports, StopsTask, stop_text, status_of_stop}
 use Rattle.bk_verbs.specs.declared.status.Status.{Status}
 use Rattle.bk_verbs.specs.declared.status.Status.TheVariants.{Done, Usage, ReadFault, WriteFault}
 use Rattle.bk_verbs.specs.declared.stop.Stop.{Stop}
@@ -23,8 +23,8 @@ use Rattle.bk_proof_program.specs.Prunes.{IsPruneOf}
 use Rattle.bk_proof_program.specs.Settled.{HasStatus}
 use Rattle.bk_proof_program.specs.Told.{IsListOf, IsReportOf}
 use Rattle.bk_proof_program.specs.declared.help.TheConstants.{USAGE}
-use Rattle.bk_proof_program.specs.declared.program.Answer.{Answer}
-use Rattle.bk_proof_program.specs.declared.program.Answer.TheVariants.{Whole, Explained}
+use Rattle.bk_proof_program.specs.declared.answer.Answer.{Answer}
+use Rattle.bk_proof_program.specs.declared.answer.Answer.TheVariants.{Whole, Explained}
 
 -- ---- answers
 -- there is no fault, since bkit can do what is asked
@@ -63,17 +63,23 @@ abbrev pub IsToldAnswer : Files → Task → Answer → Type 0
 IsToldAnswer files task (Whole text status) = AnswersTask files task text.items status
 IsToldAnswer files task (Explained stop text) = IsOutside stop ⊎ StopsAnswer files task stop
 
--- what `explain` answers of what bkit is asked
-abbrev pub IsExplanation : Files → Command → Answer → Type 0
-IsExplanation files asked (Whole text status) = IsNoFault files asked text.items status
-IsExplanation files asked (Explained stop text) = IsOutside stop ⊎ StopsTask files asked stop
-
 -- ---- what is written
 -- the line of bkit at the stop, and then words; the status is that of the line
 pub record TellsStop (stop : Stop) (old new : Option (List ℕ)) (status : Status) : Type 0 where
   pub words : List ℕ
   pub written : new ≡ written_with old (stop_text stop ++ words)
   pub ends : status ≡ status_of_stop stop
+
+-- the text, with the status that goes with it, or the line of a stop and then words; or the program ends with what may be cut short
+abbrev pub WritesAnswer : Answer → (old new : Option (List ℕ)) → Status → Type 0
+WritesAnswer (Whole text ends) old new status = IsCutShort status ⊎ ((status ≡ ends) × (new ≡ written_with old text.items))
+WritesAnswer (Explained stop text) old new status = IsCutShort status ⊎ TellsStop stop old new status
+
+-- the line of wrong words, or that of bkit at another stop
+abbrev pub WritesStop : Stop → (old new : Option (List ℕ)) → Status → Type 0
+WritesStop stop old new status =
+    ((stop ≡ WrongWords) × (IsCutShort status ⊎ ((status ≡ Usage) × (new ≡ written_with old USAGE.now))))
+    ⊎ ((stop ≢ WrongWords) × Reports stop status old new)
 
 -- a text that answers the task that the words ask for
 pub record TellsAnswer (files : Files) (words : List (List ℕ)) (old new : Option (List ℕ)) (status : Status) : Type 0 where

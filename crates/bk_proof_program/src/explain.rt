@@ -1,20 +1,24 @@
 //! `explain`.
 
-ghost use Rattle.std.specs.Prelude.{◌≡◌, ◌≢◌, ◌≤◌, Some, MatchBool, IfOk, IfErr, IfSome};
+ghost use Rattle.std.specs.Prelude.{◌≡◌, ◌≢◌, ◌≤◌, Some, MatchBool, IfOk, IfErr};
 ghost use Rattle.bk_io.specs.Counts.{HasCause};
 ghost use Rattle.bk_io.specs.Files.{Files};
 ghost use Rattle.bk_cli.specs.Asked.{task_of, HasSmallNumbers};
 ghost use Rattle.bk_verbs.specs.Causes.{IsOfReading};
 ghost use Rattle.bk_verbs.specs.Stops.{IsOutside};
 ghost use Rattle.bk_verbs.specs.declared.stop.Stop.TheVariants.{ReadFault};
-ghost use Rattle.bk_proof_program.specs.Explained.{task_asked, IsExplained};
+ghost use Rattle.bk_proof_words.specs.declared.task.Task.TheVariants.{Explain};
+ghost use Rattle.bk_proof_program.specs.Answers.{IsAnswer};
+ghost use Rattle.bk_proof_program.specs.Explained.{task_with};
+ghost use Rattle.bk_proof_program.specs.Said.{IsToldAnswer};
 
+use crate::answer::Answer;
 use bk_cli::Command;
 use bk_explain::{Source, SourceKind, explanation};
 use bk_front::{LineKind, ProjectLine, Refusal, lines};
 use bk_io::{Fetch, Memory, Shelf, Text};
 use bk_limits::{FUEL, MOST_BYTES};
-use bk_verbs::{Stop, Work, prepare};
+use bk_verbs::{Status, Stop, Work, prepare};
 use std::alloc::Global;
 use std::str;
 
@@ -26,28 +30,32 @@ pub(crate) struct Question<'a> {
     pub(crate) is_image: bool,
 }
 
-/// The stop at the first fault, as `bkit` tells it, and what it means; None where there is no fault.
+/// The stop at the first fault, as `bkit` tells it, and what it means; a line that says so where there is no fault.
 pub(crate) fn explain_answer<H: Shelf>(
     alloc: Global,
     asked: Question<'_>,
     shelf: &mut H,
-) -> Result<Option<(Stop, Vec<u8>)>, Stop>
+) -> Result<Answer, Stop>
     ensures outside { IfErr result IsOutside }
     ensures reading { IfErr result IsOfReading }
     ensures failed { HasCause ReadFault (H.faults shelf.old) (H.faults shelf.new) result }
-    ensures stops { IfOk result (λ found. IfSome found (λ p. IsOfReading p.0 × (p.0 ≢ ReadFault))) }
-    ensures told { IfOk result (λ found. (files : Files) → H.files shelf.old ≡ Some files → IsExplained files (task_asked asked.entry) found) }
+    ensures ok { IfOk result IsAnswer }
+    ensures told { IfOk result (λ a. (files : Files) → H.files shelf.old ≡ Some files →
+        IsToldAnswer files (Explain asked.entry.file asked.entry.calls asked.entry.is_image) a) }
 {
     let command = command_of(asked);
     let stop = match prepare(alloc, command, shelf) {
-        Ok(_) => return Ok(None),
+        Ok(_) => {
+            let line = Vec::from_slice(alloc, b"no fault\n")?;
+            return Ok(Answer::Whole(line, Status::Done));
+        }
         Err(stop) => stop,
     };
     if is_of_reading(&stop) {
         return Err(stop);
     }
     let words = words_of(alloc, &stop, asked, shelf)?;
-    Ok(Some((stop, words)))
+    Ok(Answer::Explained(stop, words))
 }
 
 // Whether a file was there and could not be read.
@@ -60,23 +68,34 @@ fn is_of_reading(stop: &Stop) -> bool
 // What `bkit` is to check.
 fn command_of(asked: Question<'_>) -> Command<'_>
     ensures small { HasSmallNumbers result }
-    ensures task { task_of result ≡ task_asked asked.entry }
+    ensures task { task_of result ≡ task_with asked.entry.file.now asked.entry.is_image asked.entry.calls }
 {
-    let fuel = FUEL;
     match asked.calls {
-        Some(calls) if asked.is_image => Command::Exec {
-            image: asked.file,
-            calls,
-            fuel,
-        },
-        Some(calls) => Command::Run {
-            project: asked.file,
-            calls,
-            fuel,
-        },
+        Some(calls) => session_of(asked.file, calls, asked.is_image),
         None => Command::Status {
             project: asked.file,
         },
+    }
+}
+
+// Calls on an image or a project.
+fn session_of<'a>(file: &'a str, calls: &'a str, is_image: bool) -> Command<'a>
+    ensures small { HasSmallNumbers result }
+    ensures task { task_of result ≡ task_with file.now is_image (Some calls.entry) }
+{
+    let fuel = FUEL;
+    if is_image {
+        Command::Exec {
+            image: file,
+            calls,
+            fuel,
+        }
+    } else {
+        Command::Run {
+            project: file,
+            calls,
+            fuel,
+        }
     }
 }
 

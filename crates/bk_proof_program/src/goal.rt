@@ -7,10 +7,12 @@ ghost use Rattle.bk_cli.specs.Tasks.{status_task};
 ghost use Rattle.bk_verbs.specs.Causes.{IsOfReading};
 ghost use Rattle.bk_verbs.specs.Stops.{IsOutside, StopsTask};
 ghost use Rattle.bk_verbs.specs.declared.stop.Stop.TheVariants.{ReadFault};
-ghost use Rattle.bk_proof_program.specs.Answers.{IsEnd};
+ghost use Rattle.bk_proof_words.specs.declared.task.Task.TheVariants.{Goal};
+ghost use Rattle.bk_proof_program.specs.Answers.{IsAnswer, IsEnd};
 ghost use Rattle.bk_proof_program.specs.Goals as meant;
-ghost use Rattle.bk_proof_program.specs.Goals.{IsGoalOf};
+ghost use Rattle.bk_proof_program.specs.Said.{IsToldAnswer};
 
+use crate::answer::Answer;
 use crate::project::{found, notes_of, obligation_named, read_whole};
 use bk_goal::{Asked, GoalText, goal_text};
 use bk_io::{Memory, Shelf};
@@ -26,31 +28,32 @@ pub(crate) fn goal_answer<H: Shelf>(
     name: &str,
     at: Option<usize>,
     shelf: &mut H,
-) -> Result<(Vec<u8>, Status), Stop>
+) -> Result<Answer, Stop>
     ensures told { IfOk result (λ a. (files : Files) → H.files shelf.old ≡ Some files →
-        IsGoalOf files project.now name.now at a.0.items a.1) }
-    ensures ends { IfOk result (λ a. IsEnd a.1) }
+        IsToldAnswer files (Goal project.entry name.entry at) a) }
+    ensures ok { IfOk result IsAnswer }
     ensures cause { IfErr result (λ stop. (files : Files) → H.files shelf.old ≡ Some files →
         IsOutside stop ⊎ StopsTask files (status_task project.now) stop) }
     ensures reading { IfErr result IsOfReading }
     ensures failed { HasCause ReadFault (H.faults shelf.old) (H.faults shelf.new) result }
 {
     let whole = read_whole(alloc, project, shelf)?;
-    let Some(obligation) = obligation_named(&whole.list, name.as_bytes()) else {
-        let text = unknown(alloc, name.as_bytes(), &whole.list)?;
-        return Ok((text, Status::Usage));
+    let wanted = name.as_bytes();
+    let Some(obligation) = obligation_named(&whole.list, wanted) else {
+        let line = unknown(alloc, wanted, &whole.list)?;
+        return Ok(Answer::Whole(line, Status::Usage));
     };
     let notes = notes_of(alloc, &whole)?;
     let asked = Asked {
         dev: &whole.project.development,
         table: &whole.table,
         obligation,
-        found: found(alloc, &whole, name.as_bytes())?,
+        found: found(alloc, &whole, wanted)?,
         notes: &notes,
         at,
     };
     let GoalText { text, is_open } = goal_text(alloc, asked)?;
-    Ok((text, status_of(is_open)))
+    Ok(Answer::Whole(text, status_of(is_open)))
 }
 
 fn status_of(is_open: bool) -> Status

@@ -1,6 +1,14 @@
 //! The text of `--help`, and the man page, of one table.
 
+ghost use Rattle.std.specs.Prelude.{◌≡◌, IfOk, IfErr};
+ghost use Rattle.bk_io.specs.Files.{Files};
+ghost use Rattle.bk_proof_words.specs.declared.task.Task.TheVariants.{Help, ManPage};
+ghost use Rattle.bk_proof_program.specs.Answers.{IsAnswer};
+ghost use Rattle.bk_proof_program.specs.Said.{IsToldAnswer};
+
+use crate::answer::Answer;
 use bk_io::Memory;
+use bk_verbs::{Status, Stop};
 use std::alloc::Global;
 
 /// A verb with its words, and what it writes.
@@ -53,7 +61,24 @@ const STATUS: &str =
     "Exit status: 0 where the work is done and nothing is left; 4 where it is done and something is open; 1 for wrong words or an unknown NAME; as of bkit where a file is missing (2), refused (3) or not read (10), the output fails (11), or memory ends (12); explain ends as bkit does at the fault.";
 
 /// The text of `--help`.
-pub(crate) fn help_text(alloc: Global) -> Result<Vec<u8>, Memory> {
+pub(crate) fn help_answer(alloc: Global) -> Result<Answer, Stop>
+    ensures told { IfOk result (λ a. (files : Files) → IsToldAnswer files Help a) }
+    ensures ok { IfOk result IsAnswer }
+    ensures memory { IfErr result (λ stop. stop ≡ Stop.Memory) }
+{
+    Ok(Answer::Whole(help_text(alloc)?, Status::Done))
+}
+
+/// The man page.
+pub(crate) fn man_answer(alloc: Global) -> Result<Answer, Stop>
+    ensures told { IfOk result (λ a. (files : Files) → IsToldAnswer files ManPage a) }
+    ensures ok { IfOk result IsAnswer }
+    ensures memory { IfErr result (λ stop. stop ≡ Stop.Memory) }
+{
+    Ok(Answer::Whole(man_page(alloc)?, Status::Done))
+}
+
+fn help_text(alloc: Global) -> Result<Vec<u8>, Memory> {
     let mut text = Vec::new(alloc);
     put(&mut text, USAGE)?;
     put(&mut text, "\n")?;
@@ -104,8 +129,8 @@ fn first_word(text: &[u8]) -> (&[u8], &[u8]) {
     }
 }
 
-/// The man page, in the macros of man(7).
-pub(crate) fn man_page(alloc: Global) -> Result<Vec<u8>, Memory> {
+// In the macros of man(7).
+fn man_page(alloc: Global) -> Result<Vec<u8>, Memory> {
     let mut text = Vec::new(alloc);
     put(
         &mut text,

@@ -2,6 +2,7 @@
 //! whether an obligation is proved is told by `bkit`.
 #![tactic(auto)]
 
+mod answer;
 mod explain;
 mod goal;
 mod help;

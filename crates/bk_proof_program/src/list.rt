@@ -8,12 +8,14 @@ ghost use Rattle.bk_cli.specs.Tasks.{status_task};
 ghost use Rattle.bk_verbs.specs.Causes.{IsOfReading};
 ghost use Rattle.bk_verbs.specs.Stops.{IsOutside, StopsTask};
 ghost use Rattle.bk_verbs.specs.declared.stop.Stop.TheVariants.{ReadFault};
-ghost use Rattle.bk_proof_program.specs.Answers.{IsEnd};
+ghost use Rattle.bk_proof_words.specs.declared.task.Task.TheVariants.{List as ListTask};
+ghost use Rattle.bk_proof_program.specs.Answers.{IsAnswer, IsEnd};
+ghost use Rattle.bk_proof_program.specs.Said.{IsToldAnswer};
 ghost use Rattle.bk_evidence.specs.Items.{row_of};
 ghost use Rattle.bk_proof_program.specs.Settled as meant;
-ghost use Rattle.bk_proof_program.specs.Settled.{HasStatus};
-ghost use Rattle.bk_proof_program.specs.Told.{WritesList, IsListOf};
+ghost use Rattle.bk_proof_program.specs.Told.{WritesList};
 
+use crate::answer::Answer;
 use crate::goal::nearest_name;
 use crate::project::{Whole, found, obligation_named, raw_components, read_whole};
 use bk_evidence::{Item, Proof, Script, items, items_json, list_text};
@@ -34,11 +36,10 @@ pub(crate) fn list_answer<H: Shelf>(
     is_open_only: bool,
     as_json: bool,
     shelf: &mut H,
-) -> Result<(Vec<u8>, Status), Stop>
-    ensures status { IfOk result (λ a. (files : Files) → H.files shelf.old ≡ Some files → HasStatus files project.now a.1) }
+) -> Result<Answer, Stop>
     ensures told { IfOk result (λ a. (files : Files) → H.files shelf.old ≡ Some files →
-        IsListOf files project.now as_json is_open_only a.0.items) }
-    ensures ends { IfOk result (λ a. IsEnd a.1) }
+        IsToldAnswer files (ListTask project.entry is_open_only as_json) a) }
+    ensures ok { IfOk result IsAnswer }
     ensures cause { IfErr result (λ stop. (files : Files) → H.files shelf.old ≡ Some files →
         IsOutside stop ⊎ StopsTask files (status_task project.now) stop) }
     ensures reading { IfErr result IsOfReading }
@@ -48,7 +49,7 @@ pub(crate) fn list_answer<H: Shelf>(
     let table = table_of(alloc, project, &whole.project)?;
     let status = status_of(&table);
     let text = rows_text(alloc, &whole, &table.rows, is_open_only, as_json)?;
-    Ok((text, status))
+    Ok(Answer::Whole(text, status))
 }
 
 /// Done where no row is open.

@@ -14,12 +14,12 @@ ghost use Rattle.bk_verbs.specs.Stops.{IsCutShort, IsOutside};
 ghost use Rattle.bk_proof_words.specs.Tasks.{Asks};
 ghost use Rattle.bk_proof_words.specs.declared.task.Task.{Task};
 ghost use Rattle.bk_proof_program.specs.Answers.{IsAnswer, IsSaid};
-ghost use Rattle.bk_proof_program.specs.Explained.{task_asked};
-ghost use Rattle.bk_proof_program.specs.Said.{IsExplanation, IsOutcome, IsToldAnswer, IsWritten, StopsAnswer, StopsWords, TellsStop};
+ghost use Rattle.bk_proof_program.specs.Said.{IsOutcome, IsToldAnswer, IsWritten, StopsAnswer, StopsWords, TellsStop, WritesAnswer, WritesStop};
 
+use crate::answer::Answer;
 use crate::explain::{Question, explain_answer};
 use crate::goal::goal_answer;
-use crate::help::{USAGE, help_text, man_page};
+use crate::help::{USAGE, help_answer, man_answer};
 use crate::list::list_answer;
 use crate::prune::prune_answer;
 use crate::report::report_answer;
@@ -72,7 +72,6 @@ fn code_of_run<H: Shelf, K: Sink>(
 ///
 /// The status is `Done` where nothing is left, `Unproved` where the work is done and something is open, `Usage` for wrong words and
 /// unknown names, and else that of the line that `bkit` writes where a file or a device is at fault.
-#[tactic(auto, using(crate::proofs::Ending::answer_written, crate::proofs::Ending::words_written, crate::proofs::Ending::usage_written, crate::proofs::Ending::stop_written))]
 pub fn bkproof<H: Shelf, K: Sink>(
     alloc: Global,
     words: &[String],
@@ -85,20 +84,35 @@ pub fn bkproof<H: Shelf, K: Sink>(
     ensures write_fault { result ≡ Status.WriteFault → Rose (K.faults out.old) (K.faults out.new) }
 {
     match answer_to(alloc, words, shelf) {
-        Ok(Answer::Whole(text, status)) => written(out, &text, status),
-        Ok(Answer::Explained(stop, text)) => explained(alloc, out, &stop, &text),
-        Err(Stop::Usage) => written(out, USAGE.as_bytes(), Status::Usage),
-        Err(stop) => stop.report(alloc, out),
+        Ok(answer) => write_answer(alloc, out, answer),
+        Err(stop) => write_stop(alloc, out, &stop),
     }
 }
 
-// What is to be written, and how the program then ends.
-#[derive(Drop)]
-enum Answer {
-    /// A text and the status.
-    Whole(Vec<u8>, Status),
-    /// A stop, whose line comes first, and what it means.
-    Explained(Stop, Vec<u8>),
+// Writes an answer.
+fn write_answer<K: Sink>(alloc: Global, out: &mut K, answer: Answer) -> Status
+    requires { IsAnswer answer }
+    ensures told { WritesAnswer answer (K.written out.old) (K.written out.new) result }
+    ensures read { result ≢ Status.ReadFault }
+    ensures failed { result ≡ Status.WriteFault → Rose (K.faults out.old) (K.faults out.new) }
+{
+    match answer {
+        Answer::Whole(text, status) => written(out, &text, status),
+        Answer::Explained(stop, text) => explained(alloc, out, &stop, &text),
+    }
+}
+
+// Writes the line of a stop.
+fn write_stop<K: Sink>(alloc: Global, out: &mut K, stop: &Stop) -> Status
+    requires { stop.now ≢ Stop.WriteFault }
+    ensures told { WritesStop stop.now (K.written out.old) (K.written out.new) result }
+    ensures read { result ≡ Status.ReadFault → stop.now ≡ ReadFault }
+    ensures failed { result ≡ Status.WriteFault → Rose (K.faults out.old) (K.faults out.new) }
+{
+    match stop {
+        Stop::Usage => written(out, USAGE.as_bytes(), Status::Usage),
+        _ => stop.report(alloc, out),
+    }
 }
 
 // Writes a text; the status is this one, where that is done.
@@ -166,18 +180,12 @@ fn answer_of<H: Shelf>(alloc: Global, task: Task<'_>, shelf: &mut H) -> Result<A
     ensures err { IfErr result IsOfReading }
 {
     match task {
-        Task::Goal { project, name, at } => {
-            let (text, status) = goal_answer(alloc, project, name, at, shelf)?;
-            Ok(Answer::Whole(text, status))
-        }
+        Task::Goal { project, name, at } => goal_answer(alloc, project, name, at, shelf),
         Task::List {
             project,
             is_open_only,
             as_json,
-        } => {
-            let (text, status) = list_answer(alloc, project, is_open_only, as_json, shelf)?;
-            Ok(Answer::Whole(text, status))
-        }
+        } => list_answer(alloc, project, is_open_only, as_json, shelf),
         Task::Explain {
             file,
             calls,
@@ -188,35 +196,11 @@ fn answer_of<H: Shelf>(alloc: Global, task: Task<'_>, shelf: &mut H) -> Result<A
                 calls,
                 is_image,
             };
-            explanation_of(alloc, question, shelf)
+            explain_answer(alloc, question, shelf)
         }
-        Task::Prune { project, file } => {
-            let (text, status) = prune_answer(alloc, project, file, shelf)?;
-            Ok(Answer::Whole(text, status))
-        }
-        Task::Report { project, form } => {
-            let (text, status) = report_answer(alloc, project, form, shelf)?;
-            Ok(Answer::Whole(text, status))
-        }
-        Task::Help => Ok(Answer::Whole(help_text(alloc)?, Status::Done)),
-        Task::ManPage => Ok(Answer::Whole(man_page(alloc)?, Status::Done)),
-    }
-}
-
-// What `explain` writes.
-fn explanation_of<H: Shelf>(
-    alloc: Global,
-    question: Question<'_>,
-    shelf: &mut H,
-) -> Result<Answer, Stop>
-    ensures failed { HasCause ReadFault (H.faults shelf.old) (H.faults shelf.new) result }
-    ensures told { IfOk result (λ a. (files : Files) → H.files shelf.old ≡ Some files → IsExplanation files (task_asked question.entry) a) }
-    ensures ok { IfOk result IsAnswer }
-    ensures outside { IfErr result IsOutside }
-    ensures err { IfErr result IsOfReading }
-{
-    match explain_answer(alloc, question, shelf)? {
-        Some((stop, words)) => Ok(Answer::Explained(stop, words)),
-        None => Ok(Answer::Whole(Vec::from_slice(alloc, b"no fault\n")?, Status::Done)),
+        Task::Prune { project, file } => prune_answer(alloc, project, file, shelf),
+        Task::Report { project, form } => report_answer(alloc, project, form, shelf),
+        Task::Help => help_answer(alloc),
+        Task::ManPage => man_answer(alloc),
     }
 }

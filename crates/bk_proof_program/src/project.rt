@@ -269,7 +269,6 @@ pub(crate) fn obligation_named<'a>(list: &'a [Obligation], name: &[u8]) -> Optio
 }
 
 // The first script with a name, and its number, from 0.
-#[tactic(auto, using(crate::proofs::FirstScripts::passed, crate::proofs::FirstScripts::hit, crate::proofs::FirstScripts::none))]
 fn script_with<'a>(
     alloc: Global,
     list: &'a [RawScript],

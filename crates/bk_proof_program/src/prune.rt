@@ -9,10 +9,12 @@ ghost use Rattle.bk_cli.specs.Tasks.{status_task};
 ghost use Rattle.bk_verbs.specs.Causes.{IsOfReading};
 ghost use Rattle.bk_verbs.specs.Stops.{IsOutside, StopsTask};
 ghost use Rattle.bk_verbs.specs.declared.stop.Stop.TheVariants.{ReadFault};
-ghost use Rattle.bk_proof_program.specs.Answers.{IsEnd};
+ghost use Rattle.bk_proof_words.specs.declared.task.Task.TheVariants.{Prune};
+ghost use Rattle.bk_proof_program.specs.Answers.{IsAnswer, IsEnd};
+ghost use Rattle.bk_proof_program.specs.Said.{IsToldAnswer};
 ghost use Rattle.bk_proof_program.specs.Prunes as meant;
-ghost use Rattle.bk_proof_program.specs.Prunes.{IsPruneOf};
 
+use crate::answer::Answer;
 use crate::project::{NamedText, read_whole};
 use bk_io::{Memory, Shelf};
 use bk_prune::prune_file;
@@ -26,10 +28,10 @@ pub(crate) fn prune_answer<H: Shelf>(
     project: &str,
     file: &str,
     shelf: &mut H,
-) -> Result<(Vec<u8>, Status), Stop>
+) -> Result<Answer, Stop>
     ensures told { IfOk result (λ a. (files : Files) → H.files shelf.old ≡ Some files →
-        IsPruneOf files project.now file.now a.0.items a.1) }
-    ensures ends { IfOk result (λ a. IsEnd a.1) }
+        IsToldAnswer files (Prune project.entry file.entry) a) }
+    ensures ok { IfOk result IsAnswer }
     ensures cause { IfErr result (λ stop. (files : Files) → H.files shelf.old ≡ Some files →
         IsOutside stop ⊎ StopsTask files (status_task project.now) stop) }
     ensures reading { IfErr result IsOfReading }
@@ -37,12 +39,12 @@ pub(crate) fn prune_answer<H: Shelf>(
 {
     let whole = read_whole(alloc, project, shelf)?;
     let Some(proofs) = file_named(&whole.files.proofs, file.as_bytes()) else {
-        let text = unknown(alloc, file)?;
-        return Ok((text, Status::Usage));
+        let line = unknown(alloc, file)?;
+        return Ok(Answer::Whole(line, Status::Usage));
     };
     let dev = &whole.project.development;
     let pruned = prune_file(alloc, dev, &whole.table, &whole.list, &proofs.text)?;
-    Ok((pruned.text, status_of(pruned.left)))
+    Ok(Answer::Whole(pruned.text, status_of(pruned.left)))
 }
 
 // The first file with a name.

@@ -7,13 +7,15 @@ ghost use Rattle.bk_cli.specs.Tasks.{status_task};
 ghost use Rattle.bk_verbs.specs.Causes.{IsOfReading};
 ghost use Rattle.bk_verbs.specs.Stops.{IsOutside, StopsTask};
 ghost use Rattle.bk_verbs.specs.declared.stop.Stop.TheVariants.{ReadFault};
-ghost use Rattle.bk_proof_program.specs.Answers.{IsEnd};
+ghost use Rattle.bk_proof_words.specs.declared.task.Task.TheVariants.{Report as ReportTask};
+ghost use Rattle.bk_proof_program.specs.Answers.{IsAnswer};
+ghost use Rattle.bk_proof_program.specs.Said.{IsToldAnswer};
 ghost use Rattle.bk_prune.specs.Pruned.{IsReady};
 ghost use Rattle.bk_evidence.specs.Items.{row_of, pair_of, parts_of, parts_of_pair};
-ghost use Rattle.bk_proof_program.specs.Settled.{HasStatus};
 ghost use Rattle.bk_proof_program.specs.Texts.{file_of, files_read};
-ghost use Rattle.bk_proof_program.specs.Told.{WritesReport, IsReportOf};
+ghost use Rattle.bk_proof_program.specs.Told.{WritesReport};
 
+use crate::answer::Answer;
 use crate::list::{all_items, status_of, strays};
 use crate::project::{NamedText, Whole, found, notes_of, obligation_named, read_whole};
 use bk_evidence::{File, Report, claims_of_reports, html_page, inputs, json_text, report_text};
@@ -21,8 +23,8 @@ use bk_goal::{Asked, Note, goal_text};
 use bk_io::{Memory, Shelf, Text};
 use bk_proof_words::ReportForm;
 use bk_status::Row;
+use bk_verbs::Stop;
 use bk_verbs::proof::table_of;
-use bk_verbs::{Status, Stop};
 use std::alloc::Global;
 
 /// The version of the program.
@@ -37,10 +39,10 @@ pub(crate) fn report_answer<H: Shelf>(
     project: &str,
     form: ReportForm,
     shelf: &mut H,
-) -> Result<(Vec<u8>, Status), Stop>
-    ensures status { IfOk result (λ a. (files : Files) → H.files shelf.old ≡ Some files → HasStatus files project.now a.1) }
-    ensures told { IfOk result (λ a. (files : Files) → H.files shelf.old ≡ Some files → IsReportOf files project.now form a.0.items) }
-    ensures ends { IfOk result (λ a. IsEnd a.1) }
+) -> Result<Answer, Stop>
+    ensures told { IfOk result (λ a. (files : Files) → H.files shelf.old ≡ Some files →
+        IsToldAnswer files (ReportTask project.entry form) a) }
+    ensures ok { IfOk result IsAnswer }
     ensures cause { IfErr result (λ stop. (files : Files) → H.files shelf.old ≡ Some files →
         IsOutside stop ⊎ StopsTask files (status_task project.now) stop) }
     ensures reading { IfErr result IsOfReading }
@@ -50,7 +52,7 @@ pub(crate) fn report_answer<H: Shelf>(
     let table = table_of(alloc, project, &whole.project)?;
     let status = status_of(&table);
     let text = written(alloc, project, &whole, &table.rows, form)?;
-    Ok((text, status))
+    Ok(Answer::Whole(text, status))
 }
 
 // The report in one of its forms.

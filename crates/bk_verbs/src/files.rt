@@ -171,7 +171,11 @@ pub fn read_lines<H: Shelf>(
 
 /// The names of the component files, or of the proof files, in order.
 #[tactic(auto, using(crate::proofs::Projects::file_kept, crate::proofs::Projects::file_passed))]
-pub fn names<'a>(alloc: Global, lines: &'a [ProjectLine], of_proofs: bool) -> Result<Vec<&'a str>, Stop>
+pub fn names<'a>(
+    alloc: Global,
+    lines: &'a [ProjectLine],
+    of_proofs: bool,
+) -> Result<Vec<&'a str>, Stop>
     requires { All (λ line. IsFileName line.name) lines.now }
     ensures memory { IfErr result (λ stop. stop ≡ Memory) }
     ensures ok { IfOk result (λ names. map (λ name. name.now) names.items ≡ files_of of_proofs lines.now) }

@@ -12,14 +12,14 @@ pub goal_text-requires-clause-replayable : goal.goal_text-requires-clause-replay
 goal_text-requires-clause-replayable g c =
     let whole = c.in_ok-whole.whole in
     let here : Some c.in-Some.obligation.now ≡ find (λ o. bytes_eq c.args.name.now o.name) whole.list.items =
-    c.in-Some.ensures ∙ (λ i. find (λ o. bytes_eq (c.as_bytes.ensures.value i) o.name) (c.deref.ensures.value i)) in
+    c.in-Some.ensures ∙ (λ i. find (λ o. bytes_eq (c.as_bytes-wanted.ensures.value i) o.name) (c.deref.ensures.value i)) in
     subst (IfFound (λ o. IsReplayable whole.table (named_sequent o).1)) (sym here) (found_each (λ o. IsReplayable whole.table o.1) named_sequent (λ o. bytes_eq c.args.name.now o.name) whole.list.items c.in_ok-whole.ensures.ready.replayable)
 
 pub returns-in_default-clause-told : goal.returns-in_default-clause-told
 returns-in_default-clause-told g c files told =
     let whole = c.in_ok-whole.whole in
     let none : None ≡ find (λ o. bytes_eq c.args.name.now o.name) whole.list.items =
-    c.in_default.ensures ∙ (λ i. find (λ o. bytes_eq (c.as_bytes.ensures.value i) o.name) (c.deref.ensures.value i)) in
+    c.in_default.ensures ∙ (λ i. find (λ o. bytes_eq (c.as_bytes-wanted.ensures.value i) o.name) (c.deref.ensures.value i)) in
     let no : None ≡ find (λ o. bytes_eq c.args.name.now o.0) (numbered_obligations whole.project.development) =
     ap (option_map named_sequent) none ∙ (find_map (λ o. bytes_eq c.args.name.now o.0) named_sequent whole.list.items ∙ ap (find (λ o. bytes_eq c.args.name.now o.0)) c.in_ok-whole.ensures.listed) in
     record {
@@ -33,7 +33,7 @@ pub returns-clause-told : goal.returns-clause-told
 returns-clause-told g c files told =
     let whole = c.in_ok-whole.whole in
     let here : Some c.in-Some.obligation.now ≡ find (λ o. bytes_eq c.args.name.now o.name) whole.list.items =
-    c.in-Some.ensures ∙ (λ i. find (λ o. bytes_eq (c.as_bytes.ensures.value i) o.name) (c.deref.ensures.value i)) in
+    c.in-Some.ensures ∙ (λ i. find (λ o. bytes_eq (c.as_bytes-wanted.ensures.value i) o.name) (c.deref.ensures.value i)) in
     let listed : Some (named_sequent c.in-Some.obligation.now) ≡ find (λ o. bytes_eq c.args.name.now o.0) (numbered_obligations whole.project.development) =
     ap (option_map named_sequent) here ∙ (find_map (λ o. bytes_eq c.args.name.now o.0) named_sequent whole.list.items ∙ ap (find (λ o. bytes_eq c.args.name.now o.0)) c.in_ok-whole.ensures.listed) in
     record {
@@ -42,9 +42,9 @@ returns-clause-told g c files told =
       reads = c.in_ok-whole.ensures.told files told;
       shows = subst (λ o. ShowsNamed whole.project.development whole.project.scripts c.args.name.now c.args.at o _ _) listed (
         c.in_ok-found.field-0,
-        c.in_ok-goal_text.field-0.is_open,
-        c.in_ok-found.ensures.named ∙ ap (script_named whole.project.scripts) c.as_bytes-2.ensures.value,
-        c.in_ok-goal_text.ensures,
+        c.in_ok-text.is_open,
+        c.in_ok-found.ensures.named ∙ ap (script_named whole.project.scripts) c.as_bytes-wanted.ensures.value,
+        c.in_ok-text.ensures,
         c.status_of.ensures.value,
       );
     }

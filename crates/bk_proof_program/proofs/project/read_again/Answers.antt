@@ -1,9 +1,10 @@
 use Rattle.std.proofs.Common.{◌≡◌, ◌⊎◌, All, true, false, Some, map, ◌∙◌, ap, subst, sym, rules}
 use Rattle.bk_io.specs.Files.{Files}
 use Rattle.bk_front.specs.ProjectFile.{IsFileName, AreLinesOf}
+use Rattle.bk_verbs.specs.Causes.{IsOfReading}
 use Rattle.bk_verbs.specs.Project.{IsTold, files_of}
 use Rattle.bk_verbs.specs.Stops.{IsOutside, StopsAtFiles, StopsAtProject}
-use Rattle.bk_verbs.proofs.Stopping.{widen, at_components, at_proofs}
+use Rattle.bk_verbs.proofs.Stopping.{widen, handed_on, checks_read, at_components, at_proofs}
 use Rattle.bk_verbs.proofs.Projects.{file_names}
 use Rattle.bk_proof_program.proofs.project.read_again.Goals as goal
 
@@ -52,3 +53,7 @@ returns-in_err-proofs-clause-cause g c =
     (ap (files_of false) c.deref-2.ensures.value) (ap (files_of true) c.deref-3.ensures.value)
     (c.in_ok-components.ensures.texts files (c.fetch.ensures.files ∙ told))
     (h files (c.fetch_named.ensures.files ∙ (c.fetch.ensures.files ∙ told))))
+
+pub returns-in_err-lines-clause-reading : goal.returns-in_err-lines-clause-reading
+returns-in_err-lines-clause-reading g c =
+    handed_on c.from_residual-in_err-lines.result c.in_err-lines.field-0.0 IsOfReading c.from_residual-in_err-lines.ensures.1 (checks_read c.in_err-lines.field-0.0 c.in_err-lines.ensures.checks)

@@ -1,10 +1,13 @@
 use Rattle.std.proofs.Common.{◌≡◌, ◌∙◌, Some, None, find, option_map, refl, sym, subst, ap}
 use Rattle.std.specs.Str.{bytes_eq}
 use Rattle.bk_verbs.specs.Project.{IsTold, proof_files}
-use Rattle.bk_prune.specs.Pruned.{IsPrunedFile, CountsLeft}
+use Rattle.bk_prune.specs.Pruned.{IsPrunedFile, CountsLeft, IsReady}
 use Rattle.bk_proof_program.specs.Prunes.{IsPrunedIfNamed}
 use Rattle.bk_proof_program.proofs.Finding.{IfFound, find_map, found_told}
 use Rattle.bk_proof_program.proofs.prune.prune_answer.Goals as goal
+
+pub prune_file-requires : goal.prune_file-requires
+prune_file-requires g c = subst (IsReady c.in_ok-whole.whole.project.development c.in_ok-whole.whole.table) (sym c.deref-2.ensures.value) c.in_ok-whole.ensures.ready
 
 pub returns-in_default-clause-told : goal.returns-in_default-clause-told
 returns-in_default-clause-told g c files told =
