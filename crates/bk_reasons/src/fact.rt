@@ -1,5 +1,7 @@
 //! The facts of a certificate, and those that its lines make.
 
+ghost use Rattle.std.specs.Prelude.{pos, ◌≤ℤ◌};
+
 use bk_io::Memory;
 use bk_lin::{Fact, Line};
 use std::alloc::Global;
@@ -88,15 +90,23 @@ fn quotient(alloc: Global, facts: &[Fact], number: u32, by: i128) -> Result<Opti
     let Some(fact) = fact_at(facts, number) else {
         return Ok(None);
     };
-    if by <= 0 {
+    if by < 1 {
         return Ok(None);
     }
+    let made = divided(alloc, fact, by)?;
+    Ok(Some(made))
+}
+
+// A fact divided by a positive number; what is not divisible is rounded down.
+fn divided(alloc: Global, fact: &Fact, by: i128) -> Result<Fact, Memory>
+    requires { pos 1 ≤ℤ by }
+{
     let mut coefs = Vec::new(alloc);
     for coefficient in &fact.coefs {
         coefs.push(coefficient.div_euclid(by))?;
     }
-    Ok(Some(Fact {
+    Ok(Fact {
         coefs,
         constant: fact.constant.div_euclid(by),
-    }))
+    })
 }
