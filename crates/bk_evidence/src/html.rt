@@ -9,9 +9,9 @@ use crate::claim::Claims;
 use crate::item::{Item, Script, is_settled, write_count, write_state};
 use crate::lines::concern_text;
 use crate::page::{FOOT, HEAD, STYLE};
-use crate::report::{Input, Report};
+use crate::report::{Input, Report, Stray};
 use crate::sums::{Sums, sums_of, sums_with};
-use bk_io::{Memory, Text};
+use bk_io::Memory;
 use bk_origins::Concern;
 use bk_status::State;
 use std::alloc::{AllocError, Global};
@@ -361,7 +361,7 @@ fn write_shown(page: &mut Vec<u8>, shown: &[u8]) -> Result<(), AllocError>
 }
 
 // ---- what else is known
-fn write_strays(page: &mut Vec<u8>, strays: &[Text]) -> Result<(), AllocError>
+fn write_strays(page: &mut Vec<u8>, strays: &[Stray]) -> Result<(), AllocError>
     ensures { OnOk result (page.new.items ≡ page.old.items ++ meant.strays_part strays.now) }
 {
     if strays.is_empty() {
@@ -371,23 +371,23 @@ fn write_strays(page: &mut Vec<u8>, strays: &[Text]) -> Result<(), AllocError>
     Ok(())
 }
 
-fn write_stray_list(page: &mut Vec<u8>, strays: &[Text]) -> Result<(), AllocError>
+fn write_stray_list(page: &mut Vec<u8>, strays: &[Stray]) -> Result<(), AllocError>
     ensures { OnOk result (page.new.items ≡ page.old.items ++ meant.stray_list strays.now) }
 {
     put(
         page,
         "<h2>Scripts that belong to no obligation</h2>\n<ul>\n",
     )?;
-    write_names(page, strays)?;
+    write_each_stray(page, strays)?;
     put(page, "</ul>\n")?;
     Ok(())
 }
 
-fn write_names(page: &mut Vec<u8>, names: &[Text]) -> Result<(), AllocError>
-    ensures { OnOk result (page.new.items ≡ page.old.items ++ flat_map meant.stray_part names.now) }
+fn write_each_stray(page: &mut Vec<u8>, strays: &[Stray]) -> Result<(), AllocError>
+    ensures { OnOk result (page.new.items ≡ page.old.items ++ flat_map meant.stray_part strays.now) }
 {
-    for name in names {
-        put_text(page, "<li><code>", name.as_bytes(), "</code></li>\n")?;
+    for stray in strays {
+        put_text(page, "<li><code>", stray.name.as_bytes(), "</code></li>\n")?;
     }
     Ok(())
 }

@@ -1,9 +1,8 @@
-use Rattle.std.proofs.Common.{[]}
-use Rattle.bk_evidence.specs.Lines.{asked_line}
-use Rattle.bk_evidence.proofs.Pieces.{one_piece_more}
+use Rattle.std.proofs.Common.{List, ℕ, ◌++◌, ◌∙◌, ap}
+use Rattle.bk_evidence.specs.Lines.{list_lines, stray_lines}
 use Rattle.bk_evidence.proofs.lines.list_text.Goals as goal
 
-pub loop-item-preserved : goal.loop-item-preserved
-loop-item-preserved c =
-    one_piece_more (asked_line c.args.is_open_only) [] c.loop-item.text.items c.write_if_asked.new.text.items c.args.items.now c.loop-item.item-index c.item-item.result
-    c.loop-item-test.true c.item-item.is c.loop-item.invariant c.in_ok-write_if_asked.ensures
+pub returns : goal.returns
+returns c =
+    let listed = list_lines c.args.is_open_only c.args.items.now in
+    c.in_ok-write_strays.ensures ∙ ap (λ (t : List ℕ). t ++ stray_lines c.args.strays.now) (c.in_ok-write_items.ensures ∙ ap (λ (t : List ℕ). t ++ listed) c.new-text.ensures.items)
