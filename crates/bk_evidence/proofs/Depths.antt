@@ -13,10 +13,11 @@ use Rattle.bk_evidence.specs.declared.item.Item.{Item}
 use Rattle.bk_evidence.specs.declared.item.Script.{Script}
 use Rattle.bk_evidence.specs.declared.report.Input.{Input}
 use Rattle.bk_evidence.specs.declared.report.Report.{Report}
+use Rattle.bk_evidence.specs.declared.report.Stray.{Stray}
 use Rattle.bk_evidence.specs.declared.sums.Sums.{Sums}
 use Rattle.bk_evidence.specs.Items.{sums_over, sums_with}
 use Rattle.bk_origins.specs.declared.concern.Concern.TheVariants.{Initialisation, Operation, Assertion, Values, Definedness, Other}
-use Rattle.bk_evidence.specs.Json.{text_data, count_data, script_data, place_members, item_data, input_data, sums_data, kinds_data, claims_data, asked_data, items_data, inputs_data, texts_data, report_data}
+use Rattle.bk_evidence.specs.Json.{text_data, count_data, script_data, place_members, item_data, input_data, sums_data, kinds_data, claims_data, asked_data, items_data, inputs_data, nearest_data, stray_data, strays_data, list_data, report_data}
 
 -- ---- members and items
 by-order : (n : ℕ) (o : Ordering) (a b c : Members) → members_depth a ≤ n → members_depth b ≤ n → members_depth c ≤ n → members_depth (match_ordering o a b c) ≤ n
@@ -137,8 +138,27 @@ items-within only items = let each = asked-within only items in omega arith
 inputs-within : (inputs : List Input) → depth (inputs_data inputs) ≤ 3
 inputs-within inputs = let each = list-within input_data 2 input-within inputs in omega arith
 
-texts-within : (texts : List (List ℕ)) → depth (texts_data texts) ≤ 3
-texts-within texts = let each = list-within text_data 2 (λ text. flat 2) texts in omega arith
+nearest-within : (nearest : Option (List ℕ)) → depth (nearest_data nearest) ≡ 0
+nearest-within None = refl
+nearest-within (Some name) = refl
+
+abbrev called-member : Stray → Members
+called-member stray = put (codes "name") (text_data stray.name) no_members
+
+stray-within : (stray : Stray) → depth (stray_data stray) ≤ 1
+stray-within stray =
+    one-more (put (codes "nearest") (nearest_data stray.nearest) (called-member stray)) 0 (one-flat (codes "nearest") (nearest_data stray.nearest) (called-member stray) 0 (nearest-within stray.nearest)
+    (one-flat (codes "name") (text_data stray.name) no_members 0 refl (none 0)))
+
+strays-within : (strays : List Stray) → depth (strays_data strays) ≤ 2
+strays-within strays = let each = list-within stray_data 1 stray-within strays in omega arith
+
+list-fits : (only : Bool) (items : List Item) (strays : List Stray) → depth (list_data only items strays) ≤ 4
+list-fits only items strays =
+    let first = put (codes "obligations") (items_data only items) no_members in
+    let few = strays-within strays in
+    let obligations = put-within (codes "obligations") (items_data only items) no_members 3 (items-within only items) (none 3) in
+    one-more (put (codes "scripts_for_no_obligation") (strays_data strays) first) 3 (put-within (codes "scripts_for_no_obligation") (strays_data strays) first 3 (omega arith) obligations)
 
 claims-within : (claims : Claims) → depth (claims_data claims) ≤ 1
 claims-within claims =
@@ -163,7 +183,7 @@ abbrev obligations-member : Report → Members
 obligations-member report = put (codes "obligations") (items_data false report.items.items) (inputs-member report)
 
 abbrev strays-member : Report → Members
-strays-member report = put (codes "scripts_for_no_obligation") (texts_data report.strays.items) (obligations-member report)
+strays-member report = put (codes "scripts_for_no_obligation") (strays_data report.strays.items) (obligations-member report)
 
 abbrev sums-member : Report → Members
 sums-member report = put (codes "sums") (sums_data (sums_over report.items.items)) (strays-member report)
@@ -176,7 +196,8 @@ report-within report =
     let machine = one-flat (codes "machine") (text_data report.machine) (toolchain-member report) 3 refl (one-flat (codes "toolchain") (string report.toolchain.now) (version-member report) 3 refl (one-flat (codes "version") (string report.version.now) no_members 3 refl (none 3))) in
     let inputs = put-within (codes "inputs") (inputs_data report.inputs.items) (machine-member report) 3 (inputs-within report.inputs.items) machine in
     let obligations = put-within (codes "obligations") (items_data false report.items.items) (inputs-member report) 3 (items-within false report.items.items) inputs in
-    let strays = put-within (codes "scripts_for_no_obligation") (texts_data report.strays.items) (obligations-member report) 3 (texts-within report.strays.items) obligations in
+    let few-strays = strays-within report.strays.items in
+    let strays = put-within (codes "scripts_for_no_obligation") (strays_data report.strays.items) (obligations-member report) 3 (omega arith) obligations in
     let flat-sums = sums-within (sums_over report.items.items) in
     let few-kinds = kinds-within report.items.items in
     let sums = put-within (codes "sums") (sums_data (sums_over report.items.items)) (strays-member report) 3 (omega arith) strays in
@@ -187,5 +208,5 @@ report-within report =
 pub report_nests : (report : Report) (d : Data) → d ≡ report_data report → depth d ≤ max_depth
 report_nests report d e = subst (λ x. depth x ≤ max_depth) (sym e) (let few = report-within report in omega arith)
 
-pub items_nest : (only : Bool) (items : List Item) (d : Data) → d ≡ items_data only items → depth d ≤ max_depth
-items_nest only items d e = subst (λ x. depth x ≤ max_depth) (sym e) (let few = items-within only items in omega arith)
+pub list_nests : (only : Bool) (items : List Item) (strays : List Stray) (d : Data) → d ≡ list_data only items strays → depth d ≤ max_depth
+list_nests only items strays d e = subst (λ x. depth x ≤ max_depth) (sym e) (let few = list-fits only items strays in omega arith)

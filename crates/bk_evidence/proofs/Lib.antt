@@ -2,3 +2,4 @@ pub mod Depths
 pub mod Marks
 pub mod Views
 pub mod Pieces
+pub mod Listed

@@ -7,7 +7,9 @@ use Rattle.serde_json.specs.declared.value.Value.{Value, String as StringValue, 
 use Rattle.serde_json.proofs.Views.{view-Array, view-Object}
 
 pub view_text : (s : String Global) (bytes : List ℕ) → string_bytes s ≡ bytes → view (StringValue s) ≡ string bytes
-view_text s bytes e = (search (rules, the_lemmas)) ∙ ap string e
+view_text s bytes e =
+    let own : view (StringValue s) ≡ string (string_bytes s) = search (rules, the_lemmas) in
+    own ∙ ap string e
 
 pub view_null : view Null ≡ null
 view_null = search (rules, the_lemmas)

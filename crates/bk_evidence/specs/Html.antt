@@ -10,6 +10,7 @@ use Rattle.bk_evidence.specs.declared.item.Script.{Script}
 use Rattle.bk_evidence.specs.declared.page.TheConstants.{HEAD, STYLE, FOOT}
 use Rattle.bk_evidence.specs.declared.report.Input.{Input}
 use Rattle.bk_evidence.specs.declared.report.Report.{Report}
+use Rattle.bk_evidence.specs.declared.report.Stray.{Stray}
 use Rattle.bk_evidence.specs.declared.sums.Sums.{Sums}
 use Rattle.bk_evidence.specs.Items.{sums_over, sums_with}
 use Rattle.bk_evidence.specs.Lines.{concern_text}
@@ -147,16 +148,16 @@ concerns_part items =
     ++ first_concerns_part items ++ last_concerns_part items ++ codes "</tbody>\n</table>\n"
 
 -- ---- what else is known
--- the names of scripts that belong to no obligation
-abbrev pub stray_part : List ℕ → List ℕ
-stray_part name = text_within (codes "<li><code>") name (codes "</code></li>\n")
+-- the name of a script that belongs to no obligation
+abbrev pub stray_part : Stray → List ℕ
+stray_part stray = text_within (codes "<li><code>") stray.name (codes "</code></li>\n")
 
 -- their list
-abbrev pub stray_list : List (List ℕ) → List ℕ
+abbrev pub stray_list : List Stray → List ℕ
 stray_list strays = codes "<h2>Scripts that belong to no obligation</h2>\n<ul>\n" ++ flat_map stray_part strays ++ codes "</ul>\n"
 
 -- the same; nothing where there are none
-abbrev pub strays_part : List (List ℕ) → List ℕ
+abbrev pub strays_part : List Stray → List ℕ
 strays_part strays = cond (nat_eq (length strays) 0) [] (stray_list strays)
 
 -- a file, how many bytes it has, and its SHA-256

@@ -1,5 +1,5 @@
 -- Items of reports and the rows of status tables that they are, and what reports have of files.
-use Rattle.std.specs.Prelude.{ℕ, Bool, true, false, ◌&&◌, List, length, not, count_by, string_bytes}
+use Rattle.std.specs.Prelude.{◌≡◌, ℕ, Bool, true, false, ◌&&◌, List, length, not, count_by, string_bytes}
 use Rattle.hex.specs.Hex.{encode_lower}
 use Rattle.sha2.specs.Sha256.{sha256}
 use Rattle.bk_status.specs.declared.state.State.{State}
@@ -9,7 +9,10 @@ use Rattle.bk_report.specs.Table.{is_obvious_state, is_proved_state}
 use Rattle.bk_origins.specs.Concerns.{concern_of}
 use Rattle.bk_origins.specs.declared.concern.Concern.{Concern}
 use Rattle.bk_origins.specs.declared.concern.Concern.TheVariants.{Initialisation, Operation, Assertion, Values, Definedness, Other}
+use Rattle.bk_evidence.specs.declared.claim.Claims.{Claims}
+use Rattle.bk_evidence.specs.declared.claim.TheConstants.{PROVED, TRUSTED, NOT_CLAIMED}
 use Rattle.bk_evidence.specs.declared.item.Item.{Item}
+use Rattle.bk_evidence.specs.declared.item.Proof.{Proof}
 use Rattle.bk_evidence.specs.declared.report.File.{File}
 use Rattle.bk_evidence.specs.declared.report.Input.{Input}
 use Rattle.bk_evidence.specs.declared.sums.Sums.{Sums}
@@ -17,6 +20,10 @@ use Rattle.bk_evidence.specs.declared.sums.Sums.{Sums}
 -- the row of an item
 abbrev pub row_of : Item → Row
 row_of item = record { name = item.name; state = item.state }
+
+-- what it has of a proof
+abbrev pub known_of : Item → Proof
+known_of item = record { script = item.script; shown = item.shown }
 
 -- how many items are of such a state
 abbrev pub count_items : (State → Bool) → List Item → ℕ
@@ -75,3 +82,10 @@ parts_of_pair file = (file.0, length file.1, encode_lower (sha256 file.1))
 -- the same of a file as it was read
 abbrev pub parts_of_file : File → List ℕ × ℕ × List ℕ
 parts_of_file file = parts_of_pair (pair_of file)
+
+-- ---- claims
+-- what each report claims
+pub record AreStated (claims : Claims) : Type 0 where
+  pub proved : claims.proved.now ≡ PROVED.now
+  pub trusted : claims.trusted.now ≡ TRUSTED.now
+  pub not_claimed : claims.not_claimed.now ≡ NOT_CLAIMED.now

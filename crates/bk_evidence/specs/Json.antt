@@ -11,6 +11,7 @@ use Rattle.bk_evidence.specs.declared.item.Item.{Item}
 use Rattle.bk_evidence.specs.declared.item.Script.{Script}
 use Rattle.bk_evidence.specs.declared.report.Input.{Input}
 use Rattle.bk_evidence.specs.declared.report.Report.{Report}
+use Rattle.bk_evidence.specs.declared.report.Stray.{Stray}
 use Rattle.bk_evidence.specs.declared.sums.Sums.{Sums}
 use Rattle.bk_evidence.specs.Items.{sums_over, sums_with}
 use Rattle.bk_origins.specs.declared.concern.Concern.TheVariants.{Initialisation, Operation, Assertion, Values, Definedness, Other}
@@ -44,6 +45,15 @@ abbrev pub input_data : Input → Data
 input_data input = object (put (codes "sha256") (string (string_bytes input.digest)) (put (codes "bytes") (count_data input.length)
     (put (codes "name") (text_data input.name) no_members)))
 
+-- a name, where there is one
+abbrev pub nearest_data : Option (List ℕ) → Data
+nearest_data None = null
+nearest_data (Some name) = text_data name
+
+-- a script for no obligation, and the obligation's name that is most like its name
+abbrev pub stray_data : Stray → Data
+stray_data stray = object (put (codes "nearest") (nearest_data stray.nearest) (put (codes "name") (text_data stray.name) no_members))
+
 -- how many obligations there are, and how many are obvious, proved and neither
 abbrev pub sums_data : Sums → Data
 sums_data sums = object (put (codes "open") (count_data sums.left) (put (codes "proved") (count_data sums.proved)
@@ -74,9 +84,14 @@ items_data is_open_only items = array (items_of (flat_map (asked_data is_open_on
 abbrev pub inputs_data : List Input → Data
 inputs_data inputs = array (items_of (map input_data inputs))
 
--- texts, one after another
-abbrev pub texts_data : List (List ℕ) → Data
-texts_data texts = array (items_of (map text_data texts))
+-- the scripts for no obligation
+abbrev pub strays_data : List Stray → Data
+strays_data strays = array (items_of (map stray_data strays))
+
+-- what a list has: the obligations, or those that are open, and the scripts for none
+abbrev pub list_data : (is_open_only : Bool) → List Item → List Stray → Data
+list_data is_open_only items strays = object (put (codes "scripts_for_no_obligation") (strays_data strays)
+    (put (codes "obligations") (items_data is_open_only items) no_members))
 
 -- ---- the report
 -- who wrote it, and what it is of
@@ -86,7 +101,7 @@ about_members report = put (codes "machine") (text_data report.machine)
 
 -- then the files, the obligations, and the scripts for none
 abbrev pub listed_members : Report → Members
-listed_members report = put (codes "scripts_for_no_obligation") (texts_data report.strays.items)
+listed_members report = put (codes "scripts_for_no_obligation") (strays_data report.strays.items)
     (put (codes "obligations") (items_data false report.items.items)
     (put (codes "inputs") (inputs_data report.inputs.items) (about_members report)))
 

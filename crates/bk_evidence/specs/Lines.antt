@@ -8,6 +8,7 @@ use Rattle.bk_evidence.specs.declared.item.Item.{Item}
 use Rattle.bk_evidence.specs.declared.item.Script.{Script}
 use Rattle.bk_evidence.specs.declared.report.Input.{Input}
 use Rattle.bk_evidence.specs.declared.report.Report.{Report}
+use Rattle.bk_evidence.specs.declared.report.Stray.{Stray}
 use Rattle.bk_evidence.specs.declared.sums.Sums.{Sums}
 use Rattle.bk_evidence.specs.Items.{sums_over, sums_with}
 use Rattle.bk_origins.specs.declared.concern.Concern.{Concern}
@@ -47,7 +48,25 @@ asked_line is_open_only item = cond (is_open_only && is_settled item.state) [] (
 abbrev pub list_lines : (is_open_only : Bool) → List Item → List ℕ
 list_lines is_open_only items = flat_map (asked_line is_open_only) items
 
+-- ---- scripts for no obligation
+-- ` (nearest: T.inc.1)`: the obligation's name that is most like it, where there is one
+abbrev pub nearest_text : Option (List ℕ) → List ℕ
+nearest_text None = []
+nearest_text (Some name) = codes " (nearest: " ++ name ++ codes ")"
+
+-- `no obligation has the name of the script T.ink.1 (nearest: T.inc.1)`
+abbrev pub stray_line : Stray → List ℕ
+stray_line stray = codes "no obligation has the name of the script " ++ stray.name ++ nearest_text stray.nearest ++ codes "\n"
+
+-- those of all, in order
+abbrev pub stray_lines : List Stray → List ℕ
+stray_lines strays = flat_map stray_line strays
+
 -- ---- reports
+-- `status of T`: of which machine it is
+abbrev pub title_line : List ℕ → List ℕ
+title_line machine = codes "status of " ++ machine ++ codes "\n"
+
 -- `12 obligations: 7 obvious, 5 proved, 0 open`
 abbrev pub sums_line : Sums → List ℕ
 sums_line sums = decimal sums.obligations ++ (codes " obligations: " ++ decimal sums.obvious) ++ (codes " obvious, " ++ decimal sums.proved)
@@ -85,12 +104,17 @@ input_line input = input.name ++ (codes " " ++ decimal input.length) ++ codes " 
 abbrev pub input_lines : List Input → List ℕ
 input_lines inputs = flat_map input_line inputs
 
+-- `written by bkproof of bkit 1, proved with rattle-kit-13f logic ..`: who wrote it
+abbrev pub tool_line : Report → List ℕ
+tool_line report = (codes "written by bkproof of bkit " ++ report.version.now) ++ (codes ", proved with " ++ report.toolchain.now) ++ codes "\n"
+
 -- what is proved, trusted and not claimed, a line each
 abbrev pub claims_lines : Claims → List ℕ
 claims_lines claims = (codes "proved: " ++ claims.proved.now) ++ (codes "\ntrusted: " ++ claims.trusted.now)
     ++ (codes "\nnot claimed: " ++ claims.not_claimed.now) ++ codes "\n"
 
--- all obligations, the sums, those by kinds, the files, and the claims
+-- the machine, all obligations, the sums, those by kinds, the scripts for none, the files, who wrote it, and the claims
 abbrev pub report_lines : Report → List ℕ
-report_lines report = list_lines false report.items.items ++ sums_line (sums_over report.items.items)
-    ++ concern_lines report.items.items ++ input_lines report.inputs.items ++ claims_lines report.claims
+report_lines report = title_line report.machine ++ list_lines false report.items.items ++ sums_line (sums_over report.items.items)
+    ++ concern_lines report.items.items ++ stray_lines report.strays.items ++ input_lines report.inputs.items
+    ++ tool_line report ++ claims_lines report.claims

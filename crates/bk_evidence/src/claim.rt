@@ -1,5 +1,7 @@
 //! What a report claims, and what it does not.
 
+ghost use Rattle.bk_evidence.specs.Items.{AreStated};
+
 /// What is proved and by which clause, what is trusted, and what is not claimed.
 #[derive(Clone, Copy)]
 pub struct Claims {
@@ -9,7 +11,9 @@ pub struct Claims {
 }
 
 /// What each report claims.
-pub fn claims_of_reports() -> Claims {
+pub fn claims_of_reports() -> Claims
+    ensures { AreStated result }
+{
     Claims {
         proved: PROVED,
         trusted: TRUSTED,

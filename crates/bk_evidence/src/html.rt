@@ -9,9 +9,9 @@ use crate::claim::Claims;
 use crate::item::{Item, Script, is_settled, write_count, write_state};
 use crate::lines::concern_text;
 use crate::page::{FOOT, HEAD, STYLE};
-use crate::report::{Input, Report};
+use crate::report::{Input, Report, Stray};
 use crate::sums::{Sums, sums_of, sums_with};
-use bk_io::{Memory, Text};
+use bk_io::Memory;
 use bk_origins::Concern;
 use bk_status::State;
 use std::alloc::{AllocError, Global};
@@ -33,7 +33,8 @@ pub fn html_page(alloc: Global, report: &Report) -> Result<Vec<u8>, Memory>
 fn put(page: &mut Vec<u8>, text: &str) -> Result<(), AllocError>
     ensures { OnOk result (page.new.items ≡ page.old.items ++ text.now) }
 {
-    page.extend_from_slice(text.as_bytes())
+    page.extend_from_slice(text.as_bytes())?;
+    Ok(())
 }
 
 // A byte of a text, of which marks of HTML stand as their names.
@@ -159,7 +160,8 @@ fn write_concern(page: &mut Vec<u8>, items: &[Item], concern: Concern) -> Result
     ensures { OnOk result (page.new.items ≡ page.old.items ++ meant.concern_part concern (counts.sums_with concern items.now)) }
 {
     let sums = sums_with(items, concern);
-    write_some(page, concern, sums)
+    write_some(page, concern, sums)?;
+    Ok(())
 }
 
 fn write_some(page: &mut Vec<u8>, concern: Concern, sums: Sums) -> Result<(), AllocError>
@@ -168,7 +170,8 @@ fn write_some(page: &mut Vec<u8>, concern: Concern, sums: Sums) -> Result<(), Al
     if sums.obligations == 0 {
         return Ok(());
     }
-    write_concern_row(page, concern, sums)
+    write_concern_row(page, concern, sums)?;
+    Ok(())
 }
 
 fn write_concern_row(page: &mut Vec<u8>, concern: Concern, sums: Sums) -> Result<(), AllocError>
@@ -200,7 +203,8 @@ fn write_rows(
     ensures { OnOk result (page.new.items ≡ page.old.items ++ meant.rows_part settled items.now) }
 {
     let rows = rows_text(alloc, items, settled)?;
-    write_table(page, settled, &rows)
+    write_table(page, settled, &rows)?;
+    Ok(())
 }
 
 fn rows_text(alloc: Global, items: &[Item], settled: bool) -> Result<Vec<u8>, AllocError>
@@ -216,9 +220,10 @@ fn rows_text(alloc: Global, items: &[Item], settled: bool) -> Result<Vec<u8>, Al
 fn write_if_asked(page: &mut Vec<u8>, item: &Item, settled: bool) -> Result<(), AllocError>
     ensures { OnOk result (page.new.items ≡ page.old.items ++ meant.asked_row settled item.now) }
 {
-    if is_asked(item.state, settled) {
-        return write_row(page, item);
+    if !is_asked(item.state, settled) {
+        return Ok(());
     }
+    write_row(page, item)?;
     Ok(())
 }
 
@@ -240,7 +245,8 @@ fn write_table(page: &mut Vec<u8>, settled: bool, rows: &[u8]) -> Result<(), All
     if rows.is_empty() {
         return Ok(());
     }
-    write_whole_table(page, settled, rows)
+    write_whole_table(page, settled, rows)?;
+    Ok(())
 }
 
 fn write_whole_table(page: &mut Vec<u8>, settled: bool, rows: &[u8]) -> Result<(), AllocError>
@@ -350,36 +356,38 @@ fn write_shown(page: &mut Vec<u8>, shown: &[u8]) -> Result<(), AllocError>
         "<tr class=\"shown\"><td colspan=\"4\"><details><summary>sequents</summary><pre>",
         shown,
         "</pre></details></td></tr>\n",
-    )
+    )?;
+    Ok(())
 }
 
 // ---- what else is known
-fn write_strays(page: &mut Vec<u8>, strays: &[Text]) -> Result<(), AllocError>
+fn write_strays(page: &mut Vec<u8>, strays: &[Stray]) -> Result<(), AllocError>
     ensures { OnOk result (page.new.items ≡ page.old.items ++ meant.strays_part strays.now) }
 {
     if strays.is_empty() {
         return Ok(());
     }
-    write_stray_list(page, strays)
+    write_stray_list(page, strays)?;
+    Ok(())
 }
 
-fn write_stray_list(page: &mut Vec<u8>, strays: &[Text]) -> Result<(), AllocError>
+fn write_stray_list(page: &mut Vec<u8>, strays: &[Stray]) -> Result<(), AllocError>
     ensures { OnOk result (page.new.items ≡ page.old.items ++ meant.stray_list strays.now) }
 {
     put(
         page,
         "<h2>Scripts that belong to no obligation</h2>\n<ul>\n",
     )?;
-    write_names(page, strays)?;
+    write_each_stray(page, strays)?;
     put(page, "</ul>\n")?;
     Ok(())
 }
 
-fn write_names(page: &mut Vec<u8>, names: &[Text]) -> Result<(), AllocError>
-    ensures { OnOk result (page.new.items ≡ page.old.items ++ flat_map meant.stray_part names.now) }
+fn write_each_stray(page: &mut Vec<u8>, strays: &[Stray]) -> Result<(), AllocError>
+    ensures { OnOk result (page.new.items ≡ page.old.items ++ flat_map meant.stray_part strays.now) }
 {
-    for name in names {
-        put_text(page, "<li><code>", name.as_bytes(), "</code></li>\n")?;
+    for stray in strays {
+        put_text(page, "<li><code>", stray.name.as_bytes(), "</code></li>\n")?;
     }
     Ok(())
 }

@@ -1,9 +1,9 @@
 //! Obligations with their origins and states.
 
-ghost use Rattle.std.specs.Prelude.{◌≡◌, ◌&&◌, ◌++◌, decimal, map, IfOk, OnOk};
+ghost use Rattle.std.specs.Prelude.{◌≡◌, ◌<◌, ◌&&◌, ◌++◌, length, slice_index_or, decimal, map, IfOk, OnOk};
 ghost use Rattle.bk_status.specs.Rows as meant;
 ghost use Rattle.bk_report.specs.Table.{state_text};
-ghost use Rattle.bk_evidence.specs.Items.{row_of};
+ghost use Rattle.bk_evidence.specs.Items.{row_of, known_of};
 
 use bk_io::{Memory, Text};
 use bk_origins::{Component, Origin};
@@ -44,24 +44,33 @@ pub struct Proof {
 }
 
 impl Script {
-    fn copy(&self, alloc: Global) -> Result<Script, Memory> {
+    fn copy(&self, alloc: Global) -> Result<Script, Memory>
+        ensures { IfOk result (λ copy. copy ≡ self.now) }
+    {
+        let place = self.place.copy(alloc)?;
         Ok(Script {
             rules: self.rules,
-            place: self.place.copy(alloc)?,
+            place,
         })
     }
 }
 
 impl Proof {
-    fn copy(&self, alloc: Global) -> Result<Proof, Memory> {
-        let script = match &self.script {
-            Some(script) => Some(script.copy(alloc)?),
-            None => None,
-        };
-        Ok(Proof {
-            script,
-            shown: self.shown.copy(alloc)?,
-        })
+    fn copy(&self, alloc: Global) -> Result<Proof, Memory>
+        ensures { IfOk result (λ copy. copy ≡ self.now) }
+    {
+        let script = copy_of(alloc, &self.script)?;
+        let shown = self.shown.copy(alloc)?;
+        Ok(Proof { script, shown })
+    }
+}
+
+fn copy_of(alloc: Global, script: &Option<Script>) -> Result<Option<Script>, Memory>
+    ensures { IfOk result (λ copy. copy ≡ script.now) }
+{
+    match script {
+        Some(script) => Ok(Some(script.copy(alloc)?)),
+        None => Ok(None),
     }
 }
 
@@ -73,19 +82,21 @@ pub fn items(
     components: &[Component<'_>],
     proofs: &[Proof],
 ) -> Result<Vec<Item>, Memory>
-    ensures { IfOk result (λ items. map row_of items.items ≡ rows.now) }
+    ensures states { IfOk result (λ items. map row_of items.items ≡ rows.now) }
+    ensures known { IfOk result (λ items. length proofs.now ≡ length rows.now → map known_of items.items ≡ proofs.now) }
 {
     let mut items = Vec::new(alloc);
     for (index, row) in rows.iter().enumerate() {
         let asked = asked_of(alloc, origins.get(index), components)?;
-        let proof = proof_of(alloc, proofs.get(index))?;
+        let proof = proof_at(alloc, proofs, index)?;
         items.push(item_of(alloc, row, asked, proof)?)?;
     }
     Ok(items)
 }
 
 fn item_of(alloc: Global, row: &Row, asked: Asked, proof: Proof) -> Result<Item, Memory>
-    ensures { IfOk result (λ i. row_of i ≡ row.now) }
+    ensures state { IfOk result (λ i. row_of i ≡ row.now) }
+    ensures known { IfOk result (λ i. known_of i ≡ proof) }
 {
     let name = row.name.copy(alloc)?;
     let Asked {
@@ -107,15 +118,18 @@ fn item_of(alloc: Global, row: &Row, asked: Asked, proof: Proof) -> Result<Item,
     })
 }
 
-// What is known of a proof.
-fn proof_of(alloc: Global, proof: Option<&Proof>) -> Result<Proof, Memory> {
-    match proof {
-        Some(proof) => proof.copy(alloc),
-        None => Ok(Proof {
-            script: None,
-            shown: Text::from_bytes(Vec::new(alloc)),
-        }),
+// The proof at this place of a list; nothing is known past its end.
+fn proof_at(alloc: Global, proofs: &[Proof], index: usize) -> Result<Proof, Memory>
+    ensures { IfOk result (λ p. index < length proofs.now → p ≡ slice_index_or proofs.now index p) }
+{
+    if index < proofs.len() {
+        let proof = proofs[index].copy(alloc)?;
+        return Ok(proof);
     }
+    Ok(Proof {
+        script: None,
+        shown: Text::from_bytes(Vec::new(alloc)),
+    })
 }
 
 // What an obligation asks, and where it comes from.

@@ -6,12 +6,12 @@ ghost use Rattle.serde_json.specs.Read.{read, max_depth};
 ghost use Rattle.serde_json.specs.View.{view, members_view};
 ghost use Rattle.bk_report.specs.Table.{state_text};
 ghost use Rattle.bk_evidence.specs.Json.{text_data, count_data, script_data, place_members, item_data, asked_data, items_data};
-ghost use Rattle.bk_evidence.specs.Json.{input_data, inputs_data, texts_data, sums_data, kinds_data, claims_data};
+ghost use Rattle.bk_evidence.specs.Json.{input_data, inputs_data, nearest_data, stray_data, strays_data, list_data, sums_data, kinds_data, claims_data};
 ghost use Rattle.bk_evidence.specs.Json.{about_members, listed_members, report_data};
 
 use crate::claim::Claims;
 use crate::item::{Item, Script, is_left_out, write_state};
-use crate::report::{Input, Report};
+use crate::report::{Input, Report, Stray};
 use crate::sums::{Sums, sums_of, sums_with};
 use bk_io::{Memory, Text};
 use bk_origins::Concern;
@@ -20,7 +20,6 @@ use serde_json::{Map, Value, put};
 use std::alloc::Global;
 
 /// The report as JSON on one line. It reads back as the data that it was written of.
-#[tactic(auto, using(crate::proofs::Depths::report_nests))]
 pub fn json_text(alloc: Global, report: &Report) -> Result<Vec<u8>, Memory>
     ensures { IfOk result (λ text. read text.items ≡ Some (report_data report.now)) }
 {
@@ -28,13 +27,33 @@ pub fn json_text(alloc: Global, report: &Report) -> Result<Vec<u8>, Memory>
     value_text(alloc, &value)
 }
 
-/// The obligations alone, or those that are open.
-#[tactic(auto, using(crate::proofs::Depths::items_nest))]
-pub fn items_json(alloc: Global, items: &[Item], is_open_only: bool) -> Result<Vec<u8>, Memory>
-    ensures { IfOk result (λ text. read text.items ≡ Some (items_data is_open_only items.now)) }
+/// The obligations, or those that are open, and the scripts for none, on one line.
+pub fn list_json(
+    alloc: Global,
+    items: &[Item],
+    strays: &[Stray],
+    is_open_only: bool,
+) -> Result<Vec<u8>, Memory>
+    ensures { IfOk result (λ text. read text.items ≡ Some (list_data is_open_only items.now strays.now)) }
 {
-    let value = items_value(alloc, items, is_open_only)?;
+    let value = list_value(alloc, items, strays, is_open_only)?;
     value_text(alloc, &value)
+}
+
+fn list_value(
+    alloc: Global,
+    items: &[Item],
+    strays: &[Stray],
+    is_open_only: bool,
+) -> Result<Value, Memory>
+    ensures { IfOk result (λ v. view v ≡ list_data is_open_only items.now strays.now) }
+{
+    let mut map = Map::new(alloc);
+    let items = items_value(alloc, items, is_open_only)?;
+    put(&mut map, alloc, "obligations", items)?;
+    let strays = strays_value(alloc, strays)?;
+    put(&mut map, alloc, "scripts_for_no_obligation", strays)?;
+    Ok(Value::Object(map))
 }
 
 // A value on one line.
@@ -45,7 +64,6 @@ fn value_text(alloc: Global, value: &Value) -> Result<Vec<u8>, Memory>
     Ok(value.to_vec(alloc)?)
 }
 
-#[tactic(auto, using(crate::proofs::Views::view_object))]
 fn report_value(alloc: Global, report: &Report) -> Result<Value, Memory>
     ensures { IfOk result (λ v. view v ≡ report_data report.now) }
 {
@@ -67,7 +85,7 @@ fn listed_map(alloc: Global, report: &Report) -> Result<Map<String, Value>, Memo
     put(&mut map, alloc, "inputs", inputs)?;
     let items = items_value(alloc, &report.items, false)?;
     put(&mut map, alloc, "obligations", items)?;
-    let strays = texts_value(alloc, &report.strays)?;
+    let strays = strays_value(alloc, &report.strays)?;
     put(&mut map, alloc, "scripts_for_no_obligation", strays)?;
     Ok(map)
 }
@@ -83,7 +101,6 @@ fn about_map(alloc: Global, report: &Report) -> Result<Map<String, Value>, Memor
     Ok(map)
 }
 
-#[tactic(auto, using(crate::proofs::Views::view_list))]
 fn inputs_value(alloc: Global, inputs: &[Input]) -> Result<Value, Memory>
     ensures { IfOk result (λ v. view v ≡ inputs_data inputs.now) }
 {
@@ -94,7 +111,6 @@ fn inputs_value(alloc: Global, inputs: &[Input]) -> Result<Value, Memory>
     Ok(Value::Array(list))
 }
 
-#[tactic(auto, using(crate::proofs::Views::view_object))]
 fn input_value(alloc: Global, input: &Input) -> Result<Value, Memory>
     ensures { IfOk result (λ v. view v ≡ input_data input.now) }
 {
@@ -105,7 +121,6 @@ fn input_value(alloc: Global, input: &Input) -> Result<Value, Memory>
     Ok(Value::Object(map))
 }
 
-#[tactic(auto, using(crate::proofs::Views::view_list))]
 fn items_value(alloc: Global, items: &[Item], is_open_only: bool) -> Result<Value, Memory>
     ensures { IfOk result (λ v. view v ≡ items_data is_open_only items.now) }
 {
@@ -116,7 +131,6 @@ fn items_value(alloc: Global, items: &[Item], is_open_only: bool) -> Result<Valu
     Ok(Value::Array(list))
 }
 
-#[tactic(auto, using(crate::proofs::Views::view_more))]
 fn push_if_asked(
     alloc: Global,
     list: &mut Vec<Value>,
@@ -132,7 +146,6 @@ fn push_if_asked(
     Ok(())
 }
 
-#[tactic(auto, using(crate::proofs::Views::view_object))]
 fn item_value(alloc: Global, item: &Item) -> Result<Value, Memory>
     ensures { IfOk result (λ v. view v ≡ item_data item.now) }
 {
@@ -165,7 +178,6 @@ fn script_value(alloc: Global, script: &Option<Script>) -> Result<Value, Memory>
     }
 }
 
-#[tactic(auto, using(crate::proofs::Views::view_object))]
 fn script_object(alloc: Global, script: &Script) -> Result<Value, Memory>
     ensures { IfOk result (λ v. view v ≡ script_data (Some script.now)) }
 {
@@ -175,18 +187,36 @@ fn script_object(alloc: Global, script: &Script) -> Result<Value, Memory>
     Ok(Value::Object(map))
 }
 
-#[tactic(auto, using(crate::proofs::Views::view_list))]
-fn texts_value(alloc: Global, texts: &[Text]) -> Result<Value, Memory>
-    ensures { IfOk result (λ v. view v ≡ texts_data texts.now) }
+fn strays_value(alloc: Global, strays: &[Stray]) -> Result<Value, Memory>
+    ensures { IfOk result (λ v. view v ≡ strays_data strays.now) }
 {
     let mut list = Vec::new(alloc);
-    for text in texts {
-        list.push(text_value(alloc, text.as_bytes())?)?;
+    for stray in strays {
+        list.push(stray_value(alloc, stray)?)?;
     }
     Ok(Value::Array(list))
 }
 
-#[tactic(auto, using(crate::proofs::Views::view_object))]
+fn stray_value(alloc: Global, stray: &Stray) -> Result<Value, Memory>
+    ensures { IfOk result (λ v. view v ≡ stray_data stray.now) }
+{
+    let mut map = Map::new(alloc);
+    put_text(alloc, &mut map, "name", &stray.name)?;
+    let nearest = nearest_value(alloc, &stray.nearest)?;
+    put(&mut map, alloc, "nearest", nearest)?;
+    Ok(Value::Object(map))
+}
+
+#[tactic(auto, using(crate::proofs::Views::view_null))]
+fn nearest_value(alloc: Global, nearest: &Option<Text>) -> Result<Value, Memory>
+    ensures { IfOk result (λ v. view v ≡ nearest_data nearest.now) }
+{
+    match nearest {
+        Some(name) => text_value(alloc, name.as_bytes()),
+        None => Ok(Value::Null),
+    }
+}
+
 fn sums_value(alloc: Global, sums: Sums) -> Result<Value, Memory>
     ensures { IfOk result (λ v. view v ≡ sums_data sums) }
 {
@@ -199,7 +229,6 @@ fn sums_value(alloc: Global, sums: Sums) -> Result<Value, Memory>
 }
 
 // The sums of each kind.
-#[tactic(auto, using(crate::proofs::Views::view_object))]
 fn kinds_value(alloc: Global, items: &[Item]) -> Result<Value, Memory>
     ensures { IfOk result (λ v. view v ≡ kinds_data items.now) }
 {
@@ -233,7 +262,6 @@ fn kinds_value(alloc: Global, items: &[Item]) -> Result<Value, Memory>
     Ok(Value::Object(map))
 }
 
-#[tactic(auto, using(crate::proofs::Views::view_object))]
 fn claims_value(alloc: Global, claims: Claims) -> Result<Value, Memory>
     ensures { IfOk result (λ v. view v ≡ claims_data claims.entry) }
 {

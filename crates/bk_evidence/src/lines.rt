@@ -6,33 +6,62 @@ ghost use Rattle.bk_evidence.specs.Lines as texts;
 
 use crate::claim::Claims;
 use crate::item::{Item, Script, is_left_out, write_count, write_state};
-use crate::report::{Input, Report};
+use crate::report::{Input, Report, Stray};
 use crate::sums::{Sums, sums_of, sums_with};
-use bk_io::Memory;
+use bk_io::{Memory, Text};
 use bk_origins::Concern;
 use std::alloc::{AllocError, Global};
 
-/// The report as lines: those of all obligations, the sums, those of each kind, a line for each file, and what is claimed.
+/// The report as lines: the machine, all obligations, the sums, those of each kind, the scripts for none, a line for each file, who wrote
+/// it, and what is claimed.
 pub fn report_text(alloc: Global, report: &Report) -> Result<Vec<u8>, Memory>
     ensures { IfOk result (λ text. text.items ≡ texts.report_lines report.now) }
 {
-    let mut text = list_text(alloc, &report.items, false)?;
+    let mut text = Vec::new(alloc);
+    write_title(&mut text, report.machine.as_bytes())?;
+    write_items(&mut text, &report.items, false)?;
     write_sums(&mut text, sums_of(&report.items))?;
     write_concerns(&mut text, &report.items)?;
+    write_strays(&mut text, &report.strays)?;
     write_inputs(&mut text, &report.inputs)?;
+    write_tool(&mut text, report)?;
     write_claims(&mut text, report.claims)?;
     Ok(text)
 }
 
-/// A line for each item, or for each that is not settled: its name, what it asks, its place, its state and its script.
-pub fn list_text(alloc: Global, items: &[Item], is_open_only: bool) -> Result<Vec<u8>, Memory>
-    ensures { IfOk result (λ text. text.items ≡ texts.list_lines is_open_only items.now) }
+/// A line for each item, or for each that is not settled: its name, what it asks, its place, its state and its script. Then one for each
+/// script that belongs to none.
+pub fn list_text(
+    alloc: Global,
+    items: &[Item],
+    strays: &[Stray],
+    is_open_only: bool,
+) -> Result<Vec<u8>, Memory>
+    ensures { IfOk result (λ text. text.items ≡ texts.list_lines is_open_only items.now ++ texts.stray_lines strays.now) }
 {
     let mut text = Vec::new(alloc);
-    for item in items {
-        write_if_asked(&mut text, item, is_open_only)?;
-    }
+    write_items(&mut text, items, is_open_only)?;
+    write_strays(&mut text, strays)?;
     Ok(text)
+}
+
+// `status of T`.
+fn write_title(text: &mut Vec<u8>, machine: &[u8]) -> Result<(), AllocError>
+    ensures { OnOk result (text.new.items ≡ text.old.items ++ texts.title_line machine.now) }
+{
+    text.extend_from_slice(b"status of ")?;
+    text.extend_from_slice(machine)?;
+    text.extend_from_slice(b"\n")?;
+    Ok(())
+}
+
+fn write_items(text: &mut Vec<u8>, items: &[Item], is_open_only: bool) -> Result<(), AllocError>
+    ensures { OnOk result (text.new.items ≡ text.old.items ++ texts.list_lines is_open_only items.now) }
+{
+    for item in items {
+        write_if_asked(text, item, is_open_only)?;
+    }
+    Ok(())
 }
 
 fn write_if_asked(text: &mut Vec<u8>, item: &Item, is_open_only: bool) -> Result<(), AllocError>
@@ -41,7 +70,8 @@ fn write_if_asked(text: &mut Vec<u8>, item: &Item, is_open_only: bool) -> Result
     if is_left_out(item, is_open_only) {
         return Ok(());
     }
-    write_item(text, item)
+    write_item(text, item)?;
+    Ok(())
 }
 
 fn write_item(text: &mut Vec<u8>, item: &Item) -> Result<(), AllocError>
@@ -105,6 +135,38 @@ fn write_rules(text: &mut Vec<u8>, script: &Script) -> Result<(), AllocError>
     Ok(())
 }
 
+fn write_strays(text: &mut Vec<u8>, strays: &[Stray]) -> Result<(), AllocError>
+    ensures { OnOk result (text.new.items ≡ text.old.items ++ texts.stray_lines strays.now) }
+{
+    for stray in strays {
+        write_stray(text, stray)?;
+    }
+    Ok(())
+}
+
+// `no obligation has the name of the script T.ink.1 (nearest: T.inc.1)`.
+fn write_stray(text: &mut Vec<u8>, stray: &Stray) -> Result<(), AllocError>
+    ensures { OnOk result (text.new.items ≡ text.old.items ++ texts.stray_line stray.now) }
+{
+    text.extend_from_slice(b"no obligation has the name of the script ")?;
+    text.extend_from_slice(stray.name.as_bytes())?;
+    write_nearest(text, &stray.nearest)?;
+    text.extend_from_slice(b"\n")?;
+    Ok(())
+}
+
+fn write_nearest(text: &mut Vec<u8>, nearest: &Option<Text>) -> Result<(), AllocError>
+    ensures { OnOk result (text.new.items ≡ text.old.items ++ texts.nearest_text nearest.now) }
+{
+    let Some(name) = nearest else {
+        return Ok(());
+    };
+    text.extend_from_slice(b" (nearest: ")?;
+    text.extend_from_slice(name.as_bytes())?;
+    text.extend_from_slice(b")")?;
+    Ok(())
+}
+
 // `12 obligations: 7 obvious, 5 proved, 0 open`.
 fn write_sums(text: &mut Vec<u8>, sums: Sums) -> Result<(), AllocError>
     ensures { OnOk result (text.new.items ≡ text.old.items ++ texts.sums_line sums) }
@@ -134,7 +196,8 @@ fn write_concern(text: &mut Vec<u8>, items: &[Item], concern: Concern) -> Result
     ensures { OnOk result (text.new.items ≡ text.old.items ++ texts.concern_line concern (meant.sums_with concern items.now)) }
 {
     let sums = sums_with(items, concern);
-    write_some(text, concern, sums)
+    write_some(text, concern, sums)?;
+    Ok(())
 }
 
 fn write_some(text: &mut Vec<u8>, concern: Concern, sums: Sums) -> Result<(), AllocError>
@@ -143,7 +206,8 @@ fn write_some(text: &mut Vec<u8>, concern: Concern, sums: Sums) -> Result<(), Al
     if sums.obligations == 0 {
         return Ok(());
     }
-    write_named_sums(text, concern, sums)
+    write_named_sums(text, concern, sums)?;
+    Ok(())
 }
 
 fn write_named_sums(text: &mut Vec<u8>, concern: Concern, sums: Sums) -> Result<(), AllocError>
@@ -198,21 +262,32 @@ fn write_input(text: &mut Vec<u8>, input: &Input) -> Result<(), AllocError>
     Ok(())
 }
 
-// What is proved, trusted and not claimed.
-fn write_claims(text: &mut Vec<u8>, claims: Claims) -> Result<(), AllocError>
-    ensures { OnOk result (text.new.items ≡ text.old.items ++ texts.claims_lines claims.entry) }
+// `written by bkproof of bkit 1, proved with rattle-kit-13f logic ..`.
+fn write_tool(text: &mut Vec<u8>, report: &Report) -> Result<(), AllocError>
+    ensures { OnOk result (text.new.items ≡ text.old.items ++ texts.tool_line report.now) }
 {
-    write_claim(text, b"proved: ", claims.proved)?;
-    write_claim(text, b"\ntrusted: ", claims.trusted)?;
-    write_claim(text, b"\nnot claimed: ", claims.not_claimed)?;
+    write_words(text, b"written by bkproof of bkit ", report.version)?;
+    write_words(text, b", proved with ", report.toolchain)?;
     text.extend_from_slice(b"\n")?;
     Ok(())
 }
 
-fn write_claim(text: &mut Vec<u8>, name: &[u8], claim: &str) -> Result<(), AllocError>
-    ensures { OnOk result (text.new.items ≡ text.old.items ++ (name.now ++ claim.now)) }
+// What is proved, trusted and not claimed.
+fn write_claims(text: &mut Vec<u8>, claims: Claims) -> Result<(), AllocError>
+    ensures { OnOk result (text.new.items ≡ text.old.items ++ texts.claims_lines claims.entry) }
+{
+    write_words(text, b"proved: ", claims.proved)?;
+    write_words(text, b"\ntrusted: ", claims.trusted)?;
+    write_words(text, b"\nnot claimed: ", claims.not_claimed)?;
+    text.extend_from_slice(b"\n")?;
+    Ok(())
+}
+
+// Words behind a name.
+fn write_words(text: &mut Vec<u8>, name: &[u8], words: &str) -> Result<(), AllocError>
+    ensures { OnOk result (text.new.items ≡ text.old.items ++ (name.now ++ words.now)) }
 {
     text.extend_from_slice(name)?;
-    text.extend_from_slice(claim.as_bytes())?;
+    text.extend_from_slice(words.as_bytes())?;
     Ok(())
 }

@@ -30,8 +30,16 @@ pub struct Report {
     /// Its project file first, then its components and proof files in their order.
     pub inputs: Vec<Input>,
     pub items: Vec<Item>,
-    /// The names of scripts that belong to no obligation.
-    pub strays: Vec<Text>,
+    /// The scripts that belong to no obligation.
+    pub strays: Vec<Stray>,
+}
+
+/// A script that belongs to no obligation.
+#[derive(Drop)]
+pub struct Stray {
+    pub name: Text,
+    /// The obligation's name that is most like it; None where there is no obligation.
+    pub nearest: Option<Text>,
 }
 
 /// A file as it was read.

@@ -18,7 +18,7 @@ ghost use Rattle.bk_proof_program.specs.Told.{WritesList};
 use crate::answer::Answer;
 use crate::goal::nearest_name;
 use crate::project::{Whole, found, obligation_named, raw_components, read_whole};
-use bk_evidence::{Item, Proof, Script, items, items_json, list_text};
+use bk_evidence::{Item, Proof, Script, Stray, items, list_json, list_text};
 use bk_io::{Memory, Shelf, Text};
 use bk_origins::{Component, Origin, origins};
 use bk_places::place_of;
@@ -71,45 +71,42 @@ fn rows_text(
     is_open_only: bool,
     as_json: bool,
 ) -> Result<Vec<u8>, Memory>
-    ensures { IfOk result (λ text. (items : List Item) × (map row_of items ≡ rows.now) × WritesList as_json is_open_only items text.items) }
+    ensures { IfOk result (λ text. (items : List Item) × (strays : List Stray) × (map row_of items ≡ rows.now) ×
+        WritesList as_json is_open_only items strays text.items) }
 {
     let all = all_items(alloc, whole, rows, &[])?;
-    let text = items_text(alloc, whole, &all, is_open_only, as_json)?;
+    let others = strays(alloc, whole)?;
+    let text = items_text(alloc, &all, &others, is_open_only, as_json)?;
     Ok(text)
 }
 
 fn items_text(
     alloc: Global,
-    whole: &Whole,
     all: &[Item],
+    strays: &[Stray],
     is_open_only: bool,
     as_json: bool,
 ) -> Result<Vec<u8>, Memory>
-    ensures { IfOk result (λ text. WritesList as_json is_open_only all.now text.items) }
+    ensures { IfOk result (λ text. WritesList as_json is_open_only all.now strays.now text.items) }
 {
     if as_json {
-        json_line(alloc, all, is_open_only)
+        json_line(alloc, all, strays, is_open_only)
     } else {
-        lines(alloc, whole, all, is_open_only)
+        list_text(alloc, all, strays, is_open_only)
     }
 }
 
-// The obligations as JSON.
-fn json_line(alloc: Global, all: &[Item], is_open_only: bool) -> Result<Vec<u8>, Memory>
-    ensures { IfOk result (λ text. WritesList true is_open_only all.now text.items) }
+// The obligations and the scripts for none as a line of JSON.
+fn json_line(
+    alloc: Global,
+    all: &[Item],
+    strays: &[Stray],
+    is_open_only: bool,
+) -> Result<Vec<u8>, Memory>
+    ensures { IfOk result (λ text. WritesList true is_open_only all.now strays.now text.items) }
 {
-    let mut text = items_json(alloc, all, is_open_only)?;
+    let mut text = list_json(alloc, all, strays, is_open_only)?;
     text.push(b'\n')?;
-    Ok(text)
-}
-
-// The obligations as lines, and scripts that belong to none.
-fn lines(alloc: Global, whole: &Whole, all: &[Item], is_open_only: bool) -> Result<Vec<u8>, Memory>
-    ensures { IfOk result (λ text. WritesList false is_open_only all.now text.items) }
-{
-    let mut text = list_text(alloc, all, is_open_only)?;
-    let strays = stray_text(alloc, whole)?;
-    text.extend_from_slice(&strays)?;
     Ok(text)
 }
 
@@ -202,31 +199,26 @@ fn place_text(alloc: Global, file: &[u8], text: &[u8], at: usize) -> Result<Text
     Ok(Text::from_bytes(out))
 }
 
-/// The names of scripts that belong to no obligation.
-pub(crate) fn strays(alloc: Global, whole: &Whole) -> Result<Vec<Text>, Memory> {
-    let mut names = Vec::new(alloc);
+/// The scripts that belong to no obligation.
+pub(crate) fn strays(alloc: Global, whole: &Whole) -> Result<Vec<Stray>, Memory> {
+    let mut strays = Vec::new(alloc);
     for script in whole.project.scripts.all() {
         let name = name_text(alloc, &script.name)?;
         if obligation_named(&whole.list, &name).is_none() {
-            names.push(Text::from_bytes(name))?;
+            strays.push(stray_of(alloc, whole, name)?)?;
         }
     }
-    Ok(names)
+    Ok(strays)
 }
 
-// Each of them with the obligation's name that is most like it.
-fn stray_text(alloc: Global, whole: &Whole) -> Result<Vec<u8>, Memory> {
-    let mut text = Vec::new(alloc);
-    let names = strays(alloc, whole)?;
-    for name in &names {
-        text.extend_from_slice(b"no obligation has the name of the script ")?;
-        text.extend_from_slice(name.as_bytes())?;
-        if let Some(near) = nearest_name(alloc, name.as_bytes(), &whole.list)? {
-            text.extend_from_slice(b" (nearest: ")?;
-            text.extend_from_slice(near)?;
-            text.extend_from_slice(b")")?;
-        }
-        text.extend_from_slice(b"\n")?;
-    }
-    Ok(text)
+// A script with this name, and the obligation's name that is most like it.
+fn stray_of(alloc: Global, whole: &Whole, name: Vec<u8>) -> Result<Stray, Memory> {
+    let nearest = match nearest_name(alloc, &name, &whole.list)? {
+        Some(near) => Some(Text::from_bytes(Vec::from_slice(alloc, near)?)),
+        None => None,
+    };
+    Ok(Stray {
+        name: Text::from_bytes(name),
+        nearest,
+    })
 }

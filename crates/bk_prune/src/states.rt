@@ -193,7 +193,11 @@ fn are_same(old: &[Row], new: &[Row]) -> bool
 fn is_same(row: &Row, other: &Row) -> bool
     ensures { result ≡ true → other.now ≡ row.now }
 {
-    other.name.equal(&row.name) && is_same_state(row.state, other.state)
+    let has_name = other.name.equal(&row.name);
+    if !has_name {
+        return false;
+    }
+    is_same_state(row.state, other.state)
 }
 
 fn is_same_state(state: State, other: State) -> bool

@@ -33,9 +33,10 @@ returns-clause-told g c files told =
           development = c.in_ok-whole.whole.project.development;
           scripts = c.in_ok-whole.whole.project.scripts;
           reads = c.in_ok-whole.ensures.told files told;
-          states = subst (HasRows c.in_ok-whole.whole.project.development c.in_ok-whole.whole.project.scripts) (sym (listed.1 ∙ c.deref.ensures.value)) c.in_ok-table.ensures.rows;
+          states = subst (HasRows c.in_ok-whole.whole.project.development c.in_ok-whole.whole.project.scripts) (sym (listed.2 ∙ c.deref.ensures.value)) c.in_ok-table.ensures.rows;
         };
-        writes = listed.2;
+        strays = listed.1;
+        writes = listed.3;
       },
     )
 

@@ -11,7 +11,7 @@ pub scripts-requires : goal.scripts-requires
 scripts-requires c =
     let one = ap (λ (ts : List (List ℕ)). length ts) c.in_ok-texts.ensures in
     let held = ap (λ (ts : List (Vec ℕ)). length ts) c.deref.ensures.value in
-    omega (arith, one, held, length-map c.in_ok-texts.texts.items (λ (own : Vec ℕ). own.items))
+    record { countable = omega (arith, one, held, length-map c.in_ok-texts.texts.items (λ (own : Vec ℕ). own.items)) }
 
 pub returns-in-Ok : goal.returns-in-Ok
 returns-in-Ok c =
