@@ -71,9 +71,10 @@ fn written(
         (map (λ s. s.name) report.strays.items ≡ stray_names whole.now.list.items whole.now.project.scripts) ×
         WritesReport form report text.items) }
 {
-    let report = report_of(alloc, project, whole, rows)?;
-    let text = form_text(alloc, &report, form)?;
-    Ok(text)
+    match report_of(alloc, project, whole, rows) {
+        Ok(report) => form_text(alloc, &report, form),
+        Err(Memory) => Err(Memory),
+    }
 }
 
 // The report as a value.
