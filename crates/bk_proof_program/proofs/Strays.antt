@@ -15,11 +15,11 @@ before-append false name all some more h = ap (λ names. name ∷ names) h
 pub strays_append : (list : List Obligation) (ones others : List RawScript) → stray_names list (ones ++ others) ≡ stray_names list ones ++ stray_names list others
 strays_append list [] others = refl
 strays_append list (s ∷ ss) others =
-    before-append (is_some (find (λ o. bytes_eq (name_text s.name) o.name) list)) (name_text s.name) (stray_names list (ss ++ others)) (stray_names list ss) (stray_names list others) (strays_append list ss others)
+    before-append (is_some (find (λ (o : Obligation). bytes_eq (name_text s.name) o.name) list)) (name_text s.name) (stray_names list (ss ++ others)) (stray_names list ss) (stray_names list others) (strays_append list ss others)
 
 -- of one script
-pub one_found : (list : List Obligation) (s : RawScript) (o : Obligation) → Some o ≡ find (λ x. bytes_eq (name_text s.name) x.name) list → stray_names list (s ∷ []) ≡ []
+pub one_found : (list : List Obligation) (s : RawScript) (o : Obligation) → Some o ≡ find (λ (x : Obligation). bytes_eq (name_text s.name) x.name) list → stray_names list (s ∷ []) ≡ []
 one_found list s o e = ap (λ x. stray_before (is_some x) (name_text s.name) []) (sym e)
 
-pub one_stray : (list : List Obligation) (s : RawScript) → None ≡ find (λ x. bytes_eq (name_text s.name) x.name) list → stray_names list (s ∷ []) ≡ name_text s.name ∷ []
+pub one_stray : (list : List Obligation) (s : RawScript) → None ≡ find (λ (x : Obligation). bytes_eq (name_text s.name) x.name) list → stray_names list (s ∷ []) ≡ name_text s.name ∷ []
 one_stray list s e = ap (λ (x : Option Obligation). stray_before (is_some x) (name_text s.name) []) (sym e)
