@@ -71,7 +71,7 @@ told_behind stop old middle new status result words h (inr k) =
 -- ---- faults of devices
 -- a count that rose later rose
 pub rose_later : (before middle now : ℕ) → before ≤ middle → Rose middle now → Rose before now
-rose_later before middle now l h = omega arith
+rose_later before middle now l h = omega (arith, h, l)
 
 -- a stop with the status of a read fault is one
 read_stop : (stop : Stop) → status_of_stop stop ≡ ReadFault → stop ≡ stops.ReadFault
