@@ -51,9 +51,10 @@ impl Site<'_> {
 
     // Whether a clause of an implementation asks that what is executed fits the machine.
     fn asks_fitting(&self, clause: Clause) -> bool {
+        let level = self.level;
         match clause {
             Clause::InitialisationDefined | Clause::OperationDefined(_) => {
-                self.level.kind == Kind::Implementation
+                level.kind == Kind::Implementation
             }
             _ => false,
         }
@@ -183,7 +184,8 @@ impl Site<'_> {
 
     // `stock is as above in take`.
     fn say_linked(&self, words: &mut Vec<u8>, clause: Clause, variable: u32) -> Result<(), Memory> {
-        match self.dev.table.text(variable) {
+        let dev = self.dev;
+        match dev.table.text(variable) {
             Some(text) => words.extend_from_slice(text.as_bytes())?,
             None => words.extend_from_slice(b"a variable")?,
         }
