@@ -452,7 +452,7 @@ fn write_tool(page: &mut Vec<u8>, report: &Report) -> Result<(), AllocError>
 
 // What is proved, trusted and not claimed.
 fn write_claims(page: &mut Vec<u8>, claims: Claims) -> Result<(), AllocError>
-    ensures { OnOk result (page.new.items ≡ page.old.items ++ meant.claims_part claims.entry) }
+    ensures { OnOk result (page.new.items ≡ page.old.items ++ meant.claims_part claims) }
 {
     put_text(
         page,

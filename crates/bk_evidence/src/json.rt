@@ -263,7 +263,7 @@ fn kinds_value(alloc: Global, items: &[Item]) -> Result<Value, Memory>
 }
 
 fn claims_value(alloc: Global, claims: Claims) -> Result<Value, Memory>
-    ensures { IfOk result (λ v. view v ≡ claims_data claims.entry) }
+    ensures { IfOk result (λ v. view v ≡ claims_data claims) }
 {
     let mut map = Map::new(alloc);
     put_str(alloc, &mut map, "proved", claims.proved)?;

@@ -274,7 +274,7 @@ fn write_tool(text: &mut Vec<u8>, report: &Report) -> Result<(), AllocError>
 
 // What is proved, trusted and not claimed.
 fn write_claims(text: &mut Vec<u8>, claims: Claims) -> Result<(), AllocError>
-    ensures { OnOk result (text.new.items ≡ text.old.items ++ texts.claims_lines claims.entry) }
+    ensures { OnOk result (text.new.items ≡ text.old.items ++ texts.claims_lines claims) }
 {
     write_words(text, b"proved: ", claims.proved)?;
     write_words(text, b"\ntrusted: ", claims.trusted)?;

@@ -226,8 +226,8 @@ if_none_so P Q (Some k) f h = tt
 
 -- nothing is found exactly where that is told
 pub none_needed : (N : Type 0) (o : Option ℕ) (b : Bool) → is_some o ≡ not b → IfNone o N → b ≡ true → N
-none_needed N None b e h yes = h
-none_needed N (Some k) b e h yes = let no : true ≡ false = e ∙ ap not yes in absurd (cc)
+none_needed N None b e h same = h
+none_needed N (Some k) b e h same = let other : true ≡ false = e ∙ ap not same in absurd (cc)
 
 pub needed_none : (P : ℕ → Type 0) (o : Option ℕ) (b : Bool) → is_some o ≡ not b → IfSome o P → ((k : ℕ) → P k → ⊥) → b ≡ true
 needed_none P None true e h n = refl

@@ -18,11 +18,11 @@ loop-script-preserved c =
     let finished = IsFinished c.args.proved.dev.now c.args.proved.list.now in
     record {
       none = λ counted.
-          let both = c.count_with.ensures.none counted in
+          let both = c.count_with-count.ensures.none counted in
           all_more finished c.args.scripts.now l.script-index c.script-item.result c.loop-script-test.true c.script-item.is (l.invariant.none both.0) (c.in_ok-is_finished.ensures.right both.1);
       all = λ each.
           let here = subst finished (sym c.script-item.is) (each l.script-index c.script-item.result c.loop-script-test.true) in
-          c.count_with.ensures.all (l.invariant.all each) (c.in_ok-is_finished.ensures.whole here);
+          c.count_with-count.ensures.all (l.invariant.all each) (c.in_ok-is_finished.ensures.whole here);
     }
 
 pub returns : goal.returns

@@ -18,8 +18,8 @@ returns-in-Ok c =
     let texts = ap (λ (ts : List (Vec ℕ)). map (λ (own : Vec ℕ). own.items) ts) c.deref.ensures.value ∙ c.in_ok-texts.ensures in
     record { read = subst (λ ts. AreScriptsOf ts c.in-Ok.list) texts c.in-Ok.ensures.value; none = tt }
 
-pub returns-in-Err : goal.returns-in-Err
-returns-in-Err c =
+pub returns : goal.returns
+returns c =
     let text = c.args.text.now in
     let texts = ap (λ (ts : List (Vec ℕ)). map (λ (own : Vec ℕ). own.items) ts) c.deref.ensures.value ∙ c.in_ok-texts.ensures in
     let fault = subst (λ ts. IsFaultOf ts c.in-Err.fault) texts c.in-Err.ensures.fault in
