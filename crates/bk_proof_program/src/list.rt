@@ -183,9 +183,10 @@ fn script_of(alloc: Global, whole: &Whole, name: &[u8]) -> Result<Option<Script>
     let Some(found) = found(alloc, whole, name)? else {
         return Ok(None);
     };
+    let script = found.script;
     Ok(Some(Script {
-        rules: found.script.rules.len(),
-        place: place_text(alloc, found.file, found.text, found.script.name_at)?,
+        rules: script.rules.len(),
+        place: place_text(alloc, found.file, found.text, script.name_at)?,
     }))
 }
 
