@@ -1,7 +1,8 @@
 //! Faults of names and types.
 
 use crate::say::{
-    clause_before, is_one_of, say, say_place, say_quoted, token_at, tokens_of, word_at, written,
+    clause_before, is_clause, is_one_of, say, say_place, say_quoted, token_at, tokens_of, word_at,
+    written,
 };
 use crate::source::{Source, SourceKind};
 use bk_form::{Token, TokenKind};
@@ -50,12 +51,10 @@ fn say_twice(
     };
     let name = written(source.text, token);
     say_quoted(words, name)?;
-    for other in &list[..index] {
-        if written(source.text, other) == name {
-            say(words, " stands twice; it stands first at ")?;
-            say_place(words, source, other.start)?;
-            return say(words, "\n");
-        }
+    if let Some(at) = brought_before(source.text, list, index) {
+        say(words, " stands twice; it stands first at ")?;
+        say_place(words, source, at)?;
+        return say(words, "\n");
     }
     say(words, " has a meaning already")?;
     if let Some((above, at)) = declared_above(alloc, sources, source, name)? {
@@ -65,7 +64,99 @@ fn say_twice(
     say(words, "\n")
 }
 
-// Where a component before this one has the name first.
+// Where the name of a token is declared before it; of a name that a header or a binder brings, the nearest place where it is brought.
+fn brought_before(text: &[u8], list: &[Token], index: usize) -> Option<usize> {
+    let name = word_at(text, list, index);
+    let of_component = is_declared(text, list, index);
+    for back in 0..index {
+        let place = index - 1 - back;
+        if word_at(text, list, place) == name && stands_first(text, list, place, of_component) {
+            return start_of(list, place);
+        }
+    }
+    None
+}
+
+// Whether a name is declared where a token stands, or is brought there.
+fn stands_first(text: &[u8], list: &[Token], index: usize, of_component: bool) -> bool {
+    if of_component {
+        is_declared(text, list, index)
+    } else {
+        is_brought(text, list, index)
+    }
+}
+
+// The byte at which a token starts.
+fn start_of(list: &[Token], index: usize) -> Option<usize> {
+    match list.get(index) {
+        Some(token) => Some(token.start),
+        None => None,
+    }
+}
+
+// Whether a name is brought where a token stands: declared, given to an operation, or bound.
+fn is_brought(text: &[u8], list: &[Token], index: usize) -> bool {
+    is_declared(text, list, index)
+        || (place_of_type(text, list, index).is_some() && !is_assigned(text, list, index))
+}
+
+// Whether a component declares a name where a token stands: its own, a set, an element, a constant, a variable or an operation.
+fn is_declared(text: &[u8], list: &[Token], index: usize) -> bool {
+    is_one_of(
+        clause_before(text, list, index),
+        &[
+            "SETS",
+            "CONSTANTS",
+            "CONCRETE_CONSTANTS",
+            "VARIABLES",
+            "ABSTRACT_VARIABLES",
+            "CONCRETE_VARIABLES",
+        ],
+    ) || names_operation(text, list, index)
+        || is_one_of(
+            word_before(text, list, index),
+            &["MACHINE", "REFINEMENT", "IMPLEMENTATION"],
+        )
+}
+
+// Whether an operation is named by a token: `=` stands behind it, or behind what is given to it.
+fn names_operation(text: &[u8], list: &[Token], index: usize) -> bool {
+    if !is_one_of(word_before(text, list, index), &["OPERATIONS", ";", "<--"]) {
+        return false;
+    }
+    let behind = index.saturating_add(1);
+    match word_at(text, list, behind) {
+        b"=" => true,
+        b"(" => closes_header(text, list, behind),
+        _ => false,
+    }
+}
+
+// Whether `=` stands behind the first parenthesis that closes behind a token.
+fn closes_header(text: &[u8], list: &[Token], open: usize) -> bool {
+    for place in open..list.len() {
+        if word_at(text, list, place) == b")".as_slice() {
+            return word_at(text, list, place.saturating_add(1)) == b"=".as_slice();
+        }
+    }
+    false
+}
+
+// Whether the names of the list that a token stands in are written to.
+fn is_assigned(text: &[u8], list: &[Token], index: usize) -> bool {
+    for place in index..list.len() {
+        let behind = word_at(text, list, place.saturating_add(1));
+        if is_one_of(behind, &[":=", "::", ":"]) {
+            return true;
+        }
+        if behind != b",".as_slice() && word_at(text, list, place) != b",".as_slice() {
+            return false;
+        }
+    }
+    false
+}
+
+// Where a component before this one declares the name.
 fn declared_above<'a>(
     alloc: Global,
     sources: &[Source<'a>],
@@ -78,14 +169,22 @@ fn declared_above<'a>(
         }
         if above.kind.is_component() {
             let list = tokens_of(alloc, above.text)?;
-            for token in &list {
-                if written(above.text, token) == name {
-                    return Ok(Some((*above, token.start)));
-                }
+            if let Some(at) = declared_at(above.text, &list, name) {
+                return Ok(Some((*above, at)));
             }
         }
     }
     Ok(None)
+}
+
+// Where a text declares a name.
+fn declared_at(text: &[u8], list: &[Token], name: &[u8]) -> Option<usize> {
+    for index in 0..list.len() {
+        if word_at(text, list, index) == name && is_declared(text, list, index) {
+            return start_of(list, index);
+        }
+    }
+    None
 }
 
 // A name that is not in sight.
@@ -159,11 +258,7 @@ fn say_untyped(
     let name = written(source.text, token);
     if let TokenKind::Name(_) = &token.kind {
         if let Some(place) = place_of_type(source.text, list, index) {
-            say_quoted(words, name)?;
-            say(words, " has no type: add `")?;
-            words.extend_from_slice(name)?;
-            say(words, " : SET`")?;
-            return say(words, place);
+            return say_type_wanted(words, name, place);
         }
     }
     if name == b"NATURAL".as_slice()
@@ -182,17 +277,42 @@ fn say_untyped(
     )
 }
 
+// How a name gets its type.
+#[derive(Clone, Copy)]
+enum TypePlace {
+    /// By a conjunct that is to be added there.
+    Conjunct(&'static str),
+    /// By a term that is written to it.
+    Assignment,
+}
+
+fn say_type_wanted(words: &mut Vec<u8>, name: &[u8], place: TypePlace) -> Result<(), Memory> {
+    say_quoted(words, name)?;
+    match place {
+        TypePlace::Conjunct(place) => {
+            say(words, " has no type: add `")?;
+            words.extend_from_slice(name)?;
+            say(words, " : SET`")?;
+            say(words, place)
+        }
+        TypePlace::Assignment => say(
+            words,
+            " has no type: it takes that of the first term that is written to it, and none with a type is\n",
+        ),
+    }
+}
+
 // Where the type of a name that is declared there is to be told; None of a name that is used.
-fn place_of_type(text: &[u8], list: &[Token], index: usize) -> Option<&'static str> {
+fn place_of_type(text: &[u8], list: &[Token], index: usize) -> Option<TypePlace> {
     let clause = clause_before(text, list, index);
     if is_one_of(clause, &["CONSTANTS", "CONCRETE_CONSTANTS"]) {
-        return Some(" to PROPERTIES\n");
+        return Some(TypePlace::Conjunct(" to PROPERTIES\n"));
     }
     if is_one_of(
         clause,
         &["VARIABLES", "ABSTRACT_VARIABLES", "CONCRETE_VARIABLES"],
     ) {
-        return Some(" to INVARIANT\n");
+        return Some(TypePlace::Conjunct(" to INVARIANT\n"));
     }
     let first = first_of_list(text, list, index);
     match word_before(text, list, first) {
@@ -202,26 +322,25 @@ fn place_of_type(text: &[u8], list: &[Token], index: usize) -> Option<&'static s
 }
 
 // Of names in parentheses, of which this is the first.
-fn place_in_parentheses(text: &[u8], list: &[Token], open: usize) -> Option<&'static str> {
+fn place_in_parentheses(text: &[u8], list: &[Token], open: usize) -> Option<TypePlace> {
     let word = word_before(text, list, open);
     if is_one_of(word, &["!", "#", "%"]) {
         return place_behind(word);
     }
     let ahead = word_before(text, list, open.saturating_sub(1));
-    if is_one_of(ahead, &["OPERATIONS", ";", "<--"]) {
-        return Some(" to the PRE with which the machine's operation begins\n");
+    if is_one_of(ahead, &["OPERATIONS", ";", "<--"]) && closes_header(text, list, open) {
+        return Some(TypePlace::Conjunct(" to the PRE with which the machine's operation begins\n"));
     }
     None
 }
 
 // Of names behind a word or a sign.
-fn place_behind(word: &[u8]) -> Option<&'static str> {
+fn place_behind(word: &[u8]) -> Option<TypePlace> {
     match word {
-        b"!" => Some(" before the => of the quantifier\n"),
-        b"#" | b"{" | b"%" => Some(" as a conjunct to what it binds\n"),
-        b"VAR" => Some(" by an assignment of a term that has a type\n"),
-        b"OPERATIONS" | b";" => Some(" by an assignment of a term that has a type\n"),
-        b"ANY" => Some(" to WHERE\n"),
+        b"!" => Some(TypePlace::Conjunct(" before the => of the quantifier\n")),
+        b"#" | b"{" | b"%" => Some(TypePlace::Conjunct(" as a conjunct to what it binds\n")),
+        b"VAR" | b"OPERATIONS" | b";" => Some(TypePlace::Assignment),
+        b"ANY" => Some(TypePlace::Conjunct(" to WHERE\n")),
         _ => None,
     }
 }
@@ -254,25 +373,110 @@ fn say_kind(
     index: usize,
 ) -> Result<(), Memory> {
     let text = source.text;
+    if is_strict_within(text, list, index) {
+        return say(words, "a side of <<: has no <<: of its own\n");
+    }
     let (open, before) = behind_parentheses(text, list, index);
     if asks_predicate(text, list, open, before) {
         say(
             words,
             "a predicate is needed here, as n < 3 or x : S is one, and this is a value; b = TRUE is the predicate of a truth value\n",
-        )?;
+        )
     } else {
         say(
             words,
             "a value is needed here, and this is a predicate; bool(P) is the truth value of one\n",
-        )?;
+        )
     }
-    if list
-        .iter()
-        .any(|token| written(text, token) == b"<<:".as_slice())
-    {
-        return say(words, "a side of <<: has no <<: of its own\n");
+}
+
+// Whether a <<: begins at a token that stands within a side of another one.
+fn is_strict_within(text: &[u8], list: &[Token], index: usize) -> bool {
+    is_strict(text, list, index)
+        && (is_right_of_strict(text, list, index) || is_left_of_strict(text, list, index))
+}
+
+// Whether the formula that begins at a token is a <<:.
+fn is_strict(text: &[u8], list: &[Token], index: usize) -> bool {
+    let mut open = 0usize;
+    for place in index..list.len() {
+        let word = word_at(text, list, place);
+        if opens(word) {
+            open = open.saturating_add(1);
+        } else if closes(word) {
+            if open == 0 {
+                return false;
+            }
+            open -= 1;
+        } else if open == 0 && (word == b"<<:".as_slice() || parts_formulas(word)) {
+            return word == b"<<:".as_slice();
+        }
     }
-    Ok(())
+    false
+}
+
+// Whether brackets around a token stand on the right side of a <<:.
+fn is_right_of_strict(text: &[u8], list: &[Token], index: usize) -> bool {
+    let mut closed = 0usize;
+    let mut is_side = false;
+    for back in 0..index {
+        let word = word_at(text, list, index - 1 - back);
+        if closes(word) {
+            closed = closed.saturating_add(1);
+        } else if opens(word) {
+            if closed == 0 {
+                is_side = true;
+            } else {
+                closed -= 1;
+            }
+        } else if closed == 0 && is_side && word == b"<<:".as_slice() {
+            return true;
+        } else if closed == 0 && parts_formulas(word) {
+            is_side = false;
+        }
+    }
+    false
+}
+
+// Whether brackets around a token stand on the left side of a <<:.
+fn is_left_of_strict(text: &[u8], list: &[Token], index: usize) -> bool {
+    let mut open = 0usize;
+    let mut is_side = false;
+    for place in index..list.len() {
+        let word = word_at(text, list, place);
+        if opens(word) {
+            open = open.saturating_add(1);
+        } else if closes(word) {
+            if open == 0 {
+                is_side = true;
+            } else {
+                open -= 1;
+            }
+        } else if open == 0 && is_side && word == b"<<:".as_slice() {
+            return true;
+        } else if open == 0 && parts_formulas(word) {
+            is_side = false;
+        }
+    }
+    false
+}
+
+fn opens(word: &[u8]) -> bool {
+    is_one_of(word, &["(", "{", "["])
+}
+
+fn closes(word: &[u8]) -> bool {
+    is_one_of(word, &[")", "}", "]"])
+}
+
+// Whether another formula begins behind a word.
+fn parts_formulas(word: &[u8]) -> bool {
+    is_one_of(
+        word,
+        &[
+            "&", "or", "=>", "<=>", "|", ";", ",", "THEN", "DO", "WHERE", "END",
+        ],
+    ) || is_clause(word)
 }
 
 // How many parentheses open directly before a token, and the number of the token before these.
@@ -334,9 +538,9 @@ fn encloses<'a>(text: &'a [u8], list: &[Token], index: usize) -> &'a [u8] {
     let mut closed = 0usize;
     for back in 0..index {
         let word = word_at(text, list, index - 1 - back);
-        if is_one_of(word, &[")", "}", "]"]) {
+        if closes(word) {
             closed = closed.saturating_add(1);
-        } else if is_one_of(word, &["(", "{", "["]) {
+        } else if opens(word) {
             if closed == 0 {
                 return word;
             }
@@ -351,9 +555,9 @@ fn is_operand(text: &[u8], list: &[Token], index: usize) -> bool {
     let mut open = 0usize;
     for place in index..list.len() {
         let word = word_at(text, list, place);
-        if is_one_of(word, &["(", "{", "["]) {
+        if opens(word) {
             open = open.saturating_add(1);
-        } else if is_one_of(word, &[")", "}", "]"]) {
+        } else if closes(word) {
             if open == 0 {
                 return joins_values(word_at(text, list, place.saturating_add(1)));
             }

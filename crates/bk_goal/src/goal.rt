@@ -259,7 +259,8 @@ fn reason_text(
         words.say(b"nothing is open before it")?;
         return Ok(words.into_text());
     };
-    if let (Some(rule), Some(written)) = (rules.get(done), found.script.rules.get(done)) {
+    let script = found.script;
+    if let (Some(rule), Some(written)) = (rules.get(done), script.rules.get(done)) {
         if let Rule::Unread = rule {
             let text = Written {
                 text: found.text,

@@ -7,6 +7,7 @@ mod brought;
 mod goal;
 mod names;
 mod sequents;
+mod written;
 
 pub use asked::{Asked, Found};
 pub use brought::Brought;

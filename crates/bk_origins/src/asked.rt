@@ -28,7 +28,8 @@ pub(crate) fn clauses_of(site: Site<'_>, clauses: &mut Vec<Asked>) -> Result<(),
     ] {
         clauses.push(asked_of(site, clause)?)?;
     }
-    for operation in 0..site.dev.heads.len() {
+    let dev = site.dev;
+    for operation in 0..dev.heads.len() {
         clauses.push(asked_of(site, Clause::Operation(operation))?)?;
         clauses.push(asked_of(site, Clause::OperationDefined(operation))?)?;
     }
@@ -36,7 +37,8 @@ pub(crate) fn clauses_of(site: Site<'_>, clauses: &mut Vec<Asked>) -> Result<(),
 }
 
 fn asked_of(site: Site<'_>, clause: Clause) -> Result<Asked, Memory> {
-    let mut front = Vec::from_slice(site.alloc, site.level.name.as_bytes())?;
+    let level = site.level;
+    let mut front = Vec::from_slice(site.alloc, level.name.as_bytes())?;
     front.extend_from_slice(b".")?;
     front.extend_from_slice(&site.clause_name(clause)?)?;
     front.extend_from_slice(b".")?;

@@ -40,13 +40,15 @@ impl<'a> Site<'a> {
 
     // The level above.
     fn above(&self) -> Option<&'a Level> {
+        let dev = self.dev;
         let number = self.number.checked_sub(1)?;
-        self.dev.levels.get(number)
+        dev.levels.get(number)
     }
 
     /// The operation with this number.
     pub(crate) fn operation_name(&self, operation: usize) -> &'a [u8] {
-        match self.dev.heads.get(operation) {
+        let dev = self.dev;
+        match dev.heads.get(operation) {
             Some(head) => head.name.as_bytes(),
             None => b"",
         }
@@ -99,7 +101,8 @@ impl<'a> Site<'a> {
     }
 
     fn suffix(&self) -> &'static [u8] {
-        match self.level.kind {
+        let level = self.level;
+        match level.kind {
             Kind::Implementation => b".chk",
             Kind::Machine | Kind::Refinement => b".wd",
         }
@@ -117,8 +120,9 @@ impl<'a> Site<'a> {
 
     // A part for each sequent of the assertions.
     fn assertion_leaves(&self) -> Result<Vec<Leaf>, Memory> {
+        let level = self.level;
         let mut leaves = Vec::new(self.alloc);
-        for (index, assertion) in self.level.assertions.iter().enumerate() {
+        for (index, assertion) in level.assertions.iter().enumerate() {
             let what = What::Conjunct(index.saturating_add(1));
             let mut own = condition_leaves(self.alloc, assertion, what)?;
             let at = self.assertion_at(index);
@@ -144,13 +148,15 @@ impl<'a> Site<'a> {
             Some(component) => component.term(Term::Invariant),
             None => None,
         };
-        conjunct_leaves(self.alloc, &self.level.invariant, raw)
+        let level = self.level;
+        conjunct_leaves(self.alloc, &level.invariant, raw)
     }
 
     // Those of the invariant, the links and so many outputs.
     fn joined_leaves(&self, outputs: usize) -> Result<Vec<Leaf>, Memory> {
+        let level = self.level;
         let mut leaves = self.invariant_leaves()?;
-        for (variable, _) in &self.level.links {
+        for (variable, _) in &level.links {
             leaves.push(Leaf {
                 what: What::Linked(*variable),
                 at: None,
@@ -166,16 +172,18 @@ impl<'a> Site<'a> {
     }
 
     fn start_leaves(&self) -> Result<Vec<Leaf>, Memory> {
+        let level = self.level;
         let Some(above) = self.above() else {
-            return box_leaves(self.alloc, &self.level.init, &self.invariant_leaves()?);
+            return box_leaves(self.alloc, &level.init, &self.invariant_leaves()?);
         };
         let behind = self.joined_leaves(0)?;
         let between = diamond_leaves(self.alloc, &above.init, &behind)?;
-        box_leaves(self.alloc, &self.level.init, &between)
+        box_leaves(self.alloc, &level.init, &between)
     }
 
     fn operation_leaves(&self, operation: usize) -> Result<Option<Vec<Leaf>>, Memory> {
-        let Some(body) = self.level.bodies.get(operation) else {
+        let level = self.level;
+        let Some(body) = level.bodies.get(operation) else {
             return Ok(None);
         };
         let Some(above) = self.above() else {

@@ -14,7 +14,8 @@ pub struct Component<'a> {
 impl<'a> Component<'a> {
     /// The term of the clause that is asked for.
     pub(crate) fn term(&self, wanted: Term) -> Option<&'a RawTerm> {
-        for clause in &self.raw.clauses {
+        let raw = self.raw;
+        for clause in &raw.clauses {
             if let ClauseParts::Term(term) = &clause.parts {
                 if wanted.is_in(&clause.word) {
                     return Some(term);
@@ -26,7 +27,8 @@ impl<'a> Component<'a> {
 
     /// The terms of ASSERTIONS.
     pub(crate) fn assertions(&self) -> &'a [RawTerm] {
-        for clause in &self.raw.clauses {
+        let raw = self.raw;
+        for clause in &raw.clauses {
             if let ClauseParts::Terms(terms) = &clause.parts {
                 return terms;
             }
@@ -36,24 +38,26 @@ impl<'a> Component<'a> {
 
     /// The byte at which the clause begins; that of the component where it has none.
     pub(crate) fn clause_at(&self, wanted: Begun) -> usize {
-        for clause in &self.raw.clauses {
+        let raw = self.raw;
+        for clause in &raw.clauses {
             if wanted.is_by(&clause.word) {
                 return clause.at;
             }
         }
-        self.raw.at
+        raw.at
     }
 
     /// The byte at which the name of the operation stands; that of the component where it has none.
     pub(crate) fn operation_at(&self, name: &[u8]) -> usize {
-        for clause in &self.raw.clauses {
+        let raw = self.raw;
+        for clause in &raw.clauses {
             if let ClauseParts::Operations(operations) = &clause.parts {
                 if let Some(at) = name_at(operations, name) {
                     return at;
                 }
             }
         }
-        self.raw.at
+        raw.at
     }
 }
 

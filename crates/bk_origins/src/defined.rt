@@ -2,15 +2,30 @@
 
 use bk_form::{BinOp, Form, UnOp, View};
 
-/// What such a goal asks, in words.
-pub(crate) fn defined_words(goal: &Form, is_executed: bool) -> &'static [u8] {
+/// What a goal asks that something is defined, in words.
+pub(crate) fn defined_words(goal: &Form) -> &'static [u8] {
     match goal.view() {
         View::Un(UnOp::Not, operand) => denied_words(operand),
-        View::Bin(BinOp::Le, left, right) => at_most_words(left, right, is_executed),
-        View::Bin(BinOp::Lt, left, _) if is_number(left) => b"the divisor of mod is not 0",
+        View::Bin(BinOp::Le, left, _) if is_number(left) => {
+            b"the dividend of mod, or the exponent, is not below 0"
+        }
+        View::Bin(BinOp::Lt, left, _) if is_number(left) => b"the divisor of mod is above 0",
         View::Bin(BinOp::In, _, set) => member_words(set),
-        View::All(_, body) => defined_words(body, is_executed),
+        View::Bin(BinOp::Imp, _, asked) => defined_words(asked),
+        View::All(_, body) => defined_words(body),
         _ => b"what is named is defined",
+    }
+}
+
+/// What a goal asks of what is executed, where the machine's numbers go up to this one, in words.
+pub(crate) fn fitting_words(goal: &Form, greatest: i64) -> &'static [u8] {
+    match goal.view() {
+        View::Un(UnOp::Not, operand) => denied_words(operand),
+        View::Bin(BinOp::Le, left, right) => bounded_words(left, right, i128::from(greatest)),
+        View::Bin(BinOp::Lt, left, _) if is_number(left) => b"the divisor of mod is above 0",
+        View::Bin(BinOp::Imp, _, asked) => fitting_words(asked, greatest),
+        View::All(_, body) => fitting_words(body, greatest),
+        _ => b"what is executed fits the machine",
     }
 }
 
@@ -26,29 +41,37 @@ fn denied_words(operand: &Form) -> &'static [u8] {
     }
 }
 
-// Of `a <= b`.
-fn at_most_words(left: &Form, right: &Form, is_executed: bool) -> &'static [u8] {
-    if let View::Int(low) = left.view() {
-        if low < 0 && is_executed {
-            return b"the result is not below the least number of the machine";
-        }
-        return if is_executed {
-            b"the array index is not below its least one, or the dividend is not below 0"
-        } else {
-            b"the dividend or the exponent is not below 0"
-        };
+// Of `a <= b` where something is executed.
+fn bounded_words(left: &Form, right: &Form, greatest: i128) -> &'static [u8] {
+    if is_sum(right) && is_opposite(left, greatest) {
+        return b"the result is not below the least number of the machine";
     }
-    if !is_executed {
-        return b"what is named is defined";
+    if is_sum(left) && is_this(right, greatest) {
+        return b"the result is not above the greatest number of the machine";
     }
-    if is_sum(left) && is_number(right) {
-        return b"the result is not above the greatest number of the machine, or the array index not above its greatest one";
+    if is_this(left, 0) {
+        return b"array index is in bounds, or the dividend of mod is not below 0";
     }
-    b"the array index is not above its greatest one"
+    b"array index is in bounds"
 }
 
 fn is_number(form: &Form) -> bool {
     matches!(form.view(), View::Int(_))
+}
+
+fn is_this(form: &Form, number: i128) -> bool {
+    match form.view() {
+        View::Int(value) => value == number,
+        _ => false,
+    }
+}
+
+// Whether it is the number with the other sign.
+fn is_opposite(form: &Form, number: i128) -> bool {
+    match form.view() {
+        View::Int(value) => value.checked_neg() == Some(number),
+        _ => false,
+    }
 }
 
 fn is_sum(form: &Form) -> bool {

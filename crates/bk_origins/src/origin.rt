@@ -26,10 +26,10 @@ pub struct Origin {
 }
 
 /// The origins of the obligations of a development, in order, of which these are the components as they are written.
-pub fn origins(
+pub fn origins<'a>(
     alloc: Global,
-    dev: &Development,
-    components: &[Component<'_>],
+    dev: &'a Development,
+    components: &'a [Component<'a>],
     list: &[Obligation],
 ) -> Result<Vec<Origin>, Memory>
     ensures names { IfOk result (λ all. map (λ o. o.name) all.items ≡ map (λ o. o.name) list.now) }
@@ -44,10 +44,10 @@ pub fn origins(
 }
 
 // The clauses of all levels.
-fn all_clauses(
+fn all_clauses<'a>(
     alloc: Global,
-    dev: &Development,
-    components: &[Component<'_>],
+    dev: &'a Development,
+    components: &'a [Component<'a>],
 ) -> Result<Vec<Asked>, Memory> {
     let mut clauses = Vec::new(alloc);
     for (number, level) in dev.levels.iter().enumerate() {
@@ -64,10 +64,10 @@ fn all_clauses(
 }
 
 // The origin of the obligation with this index.
-fn origin_of(
+fn origin_of<'a>(
     alloc: Global,
-    dev: &Development,
-    components: &[Component<'_>],
+    dev: &'a Development,
+    components: &'a [Component<'a>],
     clauses: &[Asked],
     list: &[Obligation],
     index: usize,

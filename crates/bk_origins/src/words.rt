@@ -1,7 +1,7 @@
 //! What parts of goals ask, in words.
 
 use crate::clause::{Clause, Site};
-use crate::defined::defined_words;
+use crate::defined::{defined_words, fitting_words};
 use crate::leaf::{Leaf, What};
 use bk_dev::Kind;
 use bk_form::Form;
@@ -18,8 +18,7 @@ impl Site<'_> {
     ) -> Result<Vec<u8>, Memory> {
         let mut words = Vec::new(self.alloc);
         if self.asks_definedness(clause) {
-            let is_executed = self.level.kind == Kind::Implementation;
-            words.extend_from_slice(defined_words(goal, is_executed))?;
+            words.extend_from_slice(self.asked_words(clause, goal))?;
             self.say_where(&mut words, clause)?;
             return Ok(words);
         }
@@ -39,6 +38,26 @@ impl Site<'_> {
                 | Clause::InitialisationDefined
                 | Clause::OperationDefined(_)
         )
+    }
+
+    // What a goal asks that something is defined, or fits the machine.
+    fn asked_words(&self, clause: Clause, goal: &Form) -> &'static [u8] {
+        if self.asks_fitting(clause) {
+            fitting_words(goal, self.dev.int_max())
+        } else {
+            defined_words(goal)
+        }
+    }
+
+    // Whether a clause of an implementation asks that what is executed fits the machine.
+    fn asks_fitting(&self, clause: Clause) -> bool {
+        let level = self.level;
+        match clause {
+            Clause::InitialisationDefined | Clause::OperationDefined(_) => {
+                level.kind == Kind::Implementation
+            }
+            _ => false,
+        }
     }
 
     // ` in take`, ` in the invariant`.
@@ -165,7 +184,8 @@ impl Site<'_> {
 
     // `stock is as above in take`.
     fn say_linked(&self, words: &mut Vec<u8>, clause: Clause, variable: u32) -> Result<(), Memory> {
-        match self.dev.table.text(variable) {
+        let dev = self.dev;
+        match dev.table.text(variable) {
             Some(text) => words.extend_from_slice(text.as_bytes())?,
             None => words.extend_from_slice(b"a variable")?,
         }

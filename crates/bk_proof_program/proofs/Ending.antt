@@ -1,7 +1,8 @@
 -- How the program ends, and what it has then written.
-use Rattle.std.proofs.Common.{◌≡◌, ◌⊎◌, inl, inr, ◌∙◌, ℕ, List, [], ◌++◌, Option, Some, None, refl, sym, ap, subst}
+use Rattle.std.proofs.Common.{◌≡◌, ◌⊎◌, inl, inr, ◌∙◌, ℕ, ◌≤◌, List, [], ◌++◌, Option, Some, None, refl, sym, ap, subst, arith}
 use Rattle.std.proofs.lemmas.List.{append-nil, append_assoc}
 use Rattle.bk_io.specs.Files.{Files}
+use Rattle.bk_io.specs.Counts.{Rose}
 use Rattle.bk_io.specs.Pieces.{written_with}
 use Rattle.bk_verbs.specs.Causes.{IsOfReading}
 use Rattle.bk_verbs.specs.Stops.{IsCutShort, IsOutside, Reports, status_of_stop, stop_text}
@@ -53,7 +54,7 @@ written_twice None one two = refl
 written_twice (Some old) one two = ap Some (append_assoc old one two)
 
 -- the line of a stop, and words behind it
-pub stop_told : (stop : Stop) (old middle new : Option (List ℕ)) (status : Status) (words : List ℕ) → Reports stop status old middle → new ≡ written_with middle words → IsCutShort status ⊎ TellsStop stop old new status
+stop_told : (stop : Stop) (old middle new : Option (List ℕ)) (status : Status) (words : List ℕ) → Reports stop status old middle → new ≡ written_with middle words → IsCutShort status ⊎ TellsStop stop old new status
 stop_told stop old middle new status words (inl h) e = inr (record {
   words = words;
   written = e ∙ (ap (λ m. written_with m words) h.1 ∙ written_twice old (stop_text stop) words);
@@ -61,7 +62,17 @@ stop_told stop old middle new status words (inl h) e = inr (record {
 })
 stop_told stop old middle new status words (inr h) e = inl h.0
 
+-- words behind the line of a stop
+pub told_behind : (stop : Stop) (old middle new : Option (List ℕ)) (status result : Status) (words : List ℕ) → Reports stop status old middle → IsCutShort result ⊎ ((result ≡ status) × (new ≡ written_with middle words)) → IsCutShort result ⊎ TellsStop stop old new result
+told_behind stop old middle new status result words h (inl k) = inl k
+told_behind stop old middle new status result words h (inr k) =
+    subst (λ (s : Status). IsCutShort s ⊎ TellsStop stop old new s) (sym k.0) (stop_told stop old middle new status words h k.1)
+
 -- ---- faults of devices
+-- a count that rose later rose
+pub rose_later : (before middle now : ℕ) → before ≤ middle → Rose middle now → Rose before now
+rose_later before middle now l h = omega (arith, h, l)
+
 -- a stop with the status of a read fault is one
 read_stop : (stop : Stop) → status_of_stop stop ≡ ReadFault → stop ≡ stops.ReadFault
 read_stop stops.Usage e = cc

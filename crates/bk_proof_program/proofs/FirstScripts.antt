@@ -1,5 +1,5 @@
 -- The first script with a name, script by script.
-use Rattle.std.proofs.Common.{◌≡◌, ◌∙◌, ℕ, zero, suc, ◌+◌, ◌<◌, ◌≤◌, Bool, true, false, cond, List, [], ◌∷◌, length, take, get_or, Option, Some, None, refl, sym, ap, subst, arith}
+use Rattle.std.proofs.Common.{◌≡◌, ◌∙◌, ℕ, zero, suc, ◌+◌, ◌<◌, ◌≤◌, Bool, true, false, cond, List, [], ◌∷◌, length, take, get_or, Option, Some, None, sym, ap, subst, arith}
 use Rattle.std.specs.Str.{bytes_eq}
 use Rattle.std.proofs.lemmas.List.{take_all}
 use Rattle.bk_raw.specs.Trees.ScriptTree.{RawScript}
@@ -17,6 +17,11 @@ module _ (name : List ℕ) where
   behind true s one other e h = e
   behind false s one other e h = h e
 
+  -- what is found behind a script that is not the one
+  passing : (b : Bool) (s : RawScript) (here there found : Option RawScript) → cond b (Some s) here ≡ None → (here ≡ None → found ≡ there) → found ≡ cond b (Some s) there
+  passing true s here there found m f = absurd (is_there s m)
+  passing false s here there found m f = f m
+
   one-more : (scripts : List RawScript) (i : ℕ) (d : RawScript) → i < length scripts → is (get_or scripts i d) ≡ false → script_named (take i scripts) name ≡ None → script_named (take (i + 1) scripts) name ≡ None
   one-more [] i d l e h = absurd (omega arith)
   one-more (s ∷ ss) zero d l e h = ap (λ b. cond b (Some s) None) e
@@ -27,11 +32,7 @@ module _ (name : List ℕ) where
   first : (scripts : List RawScript) (i : ℕ) (d : RawScript) → i < length scripts → is (get_or scripts i d) ≡ true → script_named (take i scripts) name ≡ None → Some (get_or scripts i d) ≡ script_named scripts name
   first [] i d l e h = absurd (omega arith)
   first (s ∷ ss) zero d l e h = sym (ap (λ b. cond b (Some s) (script_named ss name)) e)
-  first (s ∷ ss) (suc i) d l e h = passing (is s) refl h
-    where
-      passing : (b : Bool) → is s ≡ b → cond b (Some s) (script_named (take i ss) name) ≡ None → Some (get_or ss i d) ≡ cond b (Some s) (script_named ss name)
-      passing true k m = absurd (is_there s m)
-      passing false k m = first ss i d (omega arith) e m
+  first (s ∷ ss) (suc i) d l e h = passing (is s) s (script_named (take i ss) name) (script_named ss name) (Some (get_or ss i d)) h (first ss i d (omega arith) e)
 
 -- ---- as a loop over them has it
 pub passed : (scripts : List RawScript) (i : ℕ) (s : RawScript) (name : List ℕ) (b : Bool) → i < length scripts → s ≡ get_or scripts i s → b ≡ bytes_eq name (name_text s.name) → b ≡ false

@@ -3,3 +3,4 @@ pub mod FirstScripts
 pub mod Finding
 pub mod Causes
 pub mod Ending
+pub mod Strays

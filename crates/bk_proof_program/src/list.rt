@@ -1,6 +1,6 @@
 //! `list`.
 
-ghost use Rattle.std.specs.Prelude.{◌≡◌, ◌⊎◌, List, Some, true, false, map, IfOk, IfErr};
+ghost use Rattle.std.specs.Prelude.{◌≡◌, ◌⊎◌, ◌++◌, List, [], ◌∷◌, Some, true, map, IfOk, IfErr, OnOk};
 ghost use Rattle.bk_io.specs.Counts.{HasCause};
 ghost use Rattle.bk_io.specs.Files.{Files};
 ghost use Rattle.bk_status.specs.Rows.{first_open};
@@ -13,7 +13,7 @@ ghost use Rattle.bk_proof_program.specs.Answers.{IsAnswer, IsEnd};
 ghost use Rattle.bk_proof_program.specs.Said.{IsToldAnswer};
 ghost use Rattle.bk_evidence.specs.Items.{row_of};
 ghost use Rattle.bk_proof_program.specs.Settled as meant;
-ghost use Rattle.bk_proof_program.specs.Told.{WritesList};
+ghost use Rattle.bk_proof_program.specs.Told.{WritesList, stray_names};
 
 use crate::answer::Answer;
 use crate::goal::nearest_name;
@@ -22,7 +22,7 @@ use bk_evidence::{Item, Proof, Script, Stray, items, list_json, list_text};
 use bk_io::{Memory, Shelf, Text};
 use bk_origins::{Component, Origin, origins};
 use bk_places::place_of;
-use bk_raw::RawComponent;
+use bk_raw::{RawComponent, RawScript};
 use bk_status::{Row, Table, name_text};
 use bk_verbs::proof::table_of;
 use bk_verbs::{Status, Stop};
@@ -72,6 +72,7 @@ fn rows_text(
     as_json: bool,
 ) -> Result<Vec<u8>, Memory>
     ensures { IfOk result (λ text. (items : List Item) × (strays : List Stray) × (map row_of items ≡ rows.now) ×
+        (map (λ s. s.name) strays ≡ stray_names whole.now.list.items whole.now.project.scripts) ×
         WritesList as_json is_open_only items strays text.items) }
 {
     let all = all_items(alloc, whole, rows, &[])?;
@@ -182,9 +183,10 @@ fn script_of(alloc: Global, whole: &Whole, name: &[u8]) -> Result<Option<Script>
     let Some(found) = found(alloc, whole, name)? else {
         return Ok(None);
     };
+    let script = found.script;
     Ok(Some(Script {
-        rules: found.script.rules.len(),
-        place: place_text(alloc, found.file, found.text, found.script.name_at)?,
+        rules: script.rules.len(),
+        place: place_text(alloc, found.file, found.text, script.name_at)?,
     }))
 }
 
@@ -200,19 +202,41 @@ fn place_text(alloc: Global, file: &[u8], text: &[u8], at: usize) -> Result<Text
 }
 
 /// The scripts that belong to no obligation.
-pub(crate) fn strays(alloc: Global, whole: &Whole) -> Result<Vec<Stray>, Memory> {
+pub(crate) fn strays(alloc: Global, whole: &Whole) -> Result<Vec<Stray>, Memory>
+    ensures { IfOk result (λ all. map (λ s. s.name) all.items ≡ stray_names whole.now.list.items whole.now.project.scripts) }
+{
+    let scripts = whole.project.scripts.all();
     let mut strays = Vec::new(alloc);
-    for script in whole.project.scripts.all() {
-        let name = name_text(alloc, &script.name)?;
-        if obligation_named(&whole.list, &name).is_none() {
-            strays.push(stray_of(alloc, whole, name)?)?;
-        }
+    for script in scripts {
+        add_stray(alloc, &mut strays, whole, script)?;
     }
     Ok(strays)
 }
 
+// The script, unless it belongs to an obligation.
+fn add_stray(
+    alloc: Global,
+    strays: &mut Vec<Stray>,
+    whole: &Whole,
+    script: &RawScript,
+) -> Result<(), Memory>
+    ensures { OnOk result (map (λ s. s.name) strays.new.items ≡
+        map (λ s. s.name) strays.old.items ++ stray_names whole.now.list.items (script.now ∷ [])) }
+{
+    let name = name_text(alloc, &script.name)?;
+    match obligation_named(&whole.list, &name) {
+        Some(_) => Ok(()),
+        None => {
+            strays.push(stray_of(alloc, whole, name)?)?;
+            Ok(())
+        }
+    }
+}
+
 // A script with this name, and the obligation's name that is most like it.
-fn stray_of(alloc: Global, whole: &Whole, name: Vec<u8>) -> Result<Stray, Memory> {
+fn stray_of(alloc: Global, whole: &Whole, name: Vec<u8>) -> Result<Stray, Memory>
+    ensures { IfOk result (λ s. s.name ≡ name.items) }
+{
     let nearest = match nearest_name(alloc, &name, &whole.list)? {
         Some(near) => Some(Text::from_bytes(Vec::from_slice(alloc, near)?)),
         None => None,

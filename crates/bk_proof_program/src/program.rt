@@ -1,6 +1,6 @@
 //! The program over any shelf and any sink.
 
-ghost use Rattle.std.specs.Prelude.{◌≡◌, ◌≢◌, ◌⊎◌, [], Some, map, string_bytes, MatchBool, IfOk, IfErr};
+ghost use Rattle.std.specs.Prelude.{◌≡◌, ◌≢◌, ◌⊎◌, [], Some, map, string_bytes, IfOk, IfErr};
 ghost use Rattle.std.specs.IoError.{error_kind};
 ghost use Rattle.std.specs.Process.{exit_status};
 ghost use Rattle.bk_io.specs.Counts.{Rose, HasCause};
@@ -130,7 +130,6 @@ fn written<K: Sink>(out: &mut K, text: &[u8], status: Status) -> Status
 }
 
 // Writes the line of a stop, and what it means.
-#[tactic(auto, using(crate::proofs::Ending::stop_told))]
 fn explained<K: Sink>(alloc: Global, out: &mut K, stop: &Stop, text: &[u8]) -> Status
     requires reading { stop.now ≢ ReadFault }
     requires writing { IsOfReading stop.now }
@@ -139,21 +138,11 @@ fn explained<K: Sink>(alloc: Global, out: &mut K, stop: &Stop, text: &[u8]) -> S
     ensures failed { result ≡ Status.WriteFault → Rose (K.faults out.old) (K.faults out.new) }
 {
     let status = stop.report(alloc, out);
-    if is_cut_short(status) {
-        return status;
+    match status {
+        Status::WriteFault => Status::WriteFault,
+        Status::Memory => Status::Memory,
+        _ => written(out, text, status),
     }
-    match put_all(out, text) {
-        Ok(()) => status,
-        Err(SinkFault::Failed) => Status::WriteFault,
-        Err(SinkFault::Memory) => Status::Memory,
-    }
-}
-
-// Whether a line may be written in part.
-fn is_cut_short(status: Status) -> bool
-    ensures { MatchBool result (IsCutShort status) (¬ IsCutShort status) }
-{
-    matches!(status, Status::WriteFault | Status::Memory)
 }
 
 // What the words ask for.

@@ -13,7 +13,8 @@ ghost use Rattle.bk_proof_program.specs.Said.{IsToldAnswer};
 ghost use Rattle.bk_prune.specs.Pruned.{IsReady};
 ghost use Rattle.bk_evidence.specs.Items.{row_of, pair_of, parts_of, parts_of_pair};
 ghost use Rattle.bk_proof_program.specs.Texts.{file_of, files_read};
-ghost use Rattle.bk_proof_program.specs.Told.{WritesReport};
+ghost use Rattle.bk_proof_program.specs.Told as meant;
+ghost use Rattle.bk_proof_program.specs.Told.{IsMade, WritesReport, stray_names};
 
 use crate::answer::Answer;
 use crate::list::{all_items, status_of, strays};
@@ -65,11 +66,15 @@ fn written(
 ) -> Result<Vec<u8>, Memory>
     requires { IsReady whole.now.project.development whole.now.table whole.now.list.items }
     ensures { IfOk result (λ text. (report : Report) × (map row_of report.items.items ≡ rows.now) ×
-        (map parts_of report.inputs.items ≡ map parts_of_pair (files_read project.now whole.now.files)) × WritesReport form report text.items) }
+        (map parts_of report.inputs.items ≡ map parts_of_pair (files_read project.now whole.now.files)) ×
+        IsMade whole.now.project.development report ×
+        (map (λ s. s.name) report.strays.items ≡ stray_names whole.now.list.items whole.now.project.scripts) ×
+        WritesReport form report text.items) }
 {
-    let report = report_of(alloc, project, whole, rows)?;
-    let text = form_text(alloc, &report, form)?;
-    Ok(text)
+    match report_of(alloc, project, whole, rows) {
+        Ok(report) => form_text(alloc, &report, form),
+        Err(Memory) => Err(Memory),
+    }
 }
 
 // The report as a value.
@@ -78,6 +83,9 @@ fn report_of(alloc: Global, project: &str, whole: &Whole, rows: &[Row]) -> Resul
     ensures items { IfOk result (λ report. map row_of report.items.items ≡ rows.now) }
     ensures inputs { IfOk result (λ report.
         map parts_of report.inputs.items ≡ map parts_of_pair (files_read project.now whole.now.files)) }
+    ensures made { IfOk result (IsMade whole.now.project.development) }
+    ensures strays { IfOk result (λ report.
+        map (λ s. s.name) report.strays.items ≡ stray_names whole.now.list.items whole.now.project.scripts) }
 {
     let shown = shown_texts(alloc, whole, rows)?;
     let files = files_of(alloc, project, whole)?;
@@ -144,7 +152,9 @@ fn open_text(alloc: Global, whole: &Whole, notes: &[Note], name: &[u8]) -> Resul
     Ok(Text::from_bytes(Vec::new(alloc)))
 }
 
-fn machine_name(alloc: Global, whole: &Whole) -> Result<Text, Memory> {
+fn machine_name(alloc: Global, whole: &Whole) -> Result<Text, Memory>
+    ensures { IfOk result (λ name. name ≡ meant.machine_name whole.now.project.development.levels) }
+{
     match whole.project.development.levels.first() {
         Some(level) => level.name.copy(alloc),
         None => Ok(Text::from_bytes(Vec::new(alloc))),

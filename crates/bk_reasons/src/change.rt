@@ -44,7 +44,7 @@ pub(crate) fn change_does_not_fit(
 fn is_of_other_form(words: &mut Words<'_>, change: Change<'_>, old: &Form) -> Result<bool, Memory> {
     let wanted: &[u8] = match change {
         Change::Deciding => {
-            b"comparison or membership of sums of numbers, nor an equality of two elements or truth values"
+            b"comparison of sums of numbers, no membership of one in NATURAL, NATURAL1 or an interval, and no equality of two elements or truth values"
         }
         Change::Typing => b"E : N where N is BOOL, INTEGER or an enumerated set",
         Change::Negating => b"not of a quantifier",

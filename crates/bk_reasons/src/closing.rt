@@ -4,7 +4,7 @@ use crate::compare::say_difference;
 use crate::shape::{Shape, goal_is_no, hypothesis_is_no};
 use crate::words::Words;
 use bk_arith::{ArithFault, closed, polynomial};
-use bk_form::{BinOp, Form, UnOp, View};
+use bk_form::{BinOp, Domain, Form, UnOp, View};
 use bk_io::Memory;
 use bk_seq::{Sequent, numbered};
 
@@ -133,7 +133,7 @@ pub(crate) fn sums_differ(words: &mut Words<'_>, sequent: &Sequent) -> Result<bo
     }
 }
 
-/// What is told by this name is no comparison or membership of closed sums, or it is false.
+/// What is told by this name is no comparison of closed sums, and no membership of one in a set of numbers; or it is false.
 pub(crate) fn is_undecided(
     words: &mut Words<'_>,
     form: &Form,
@@ -145,7 +145,9 @@ pub(crate) fn is_undecided(
         words.form(form)?;
         return Ok(true);
     }
-    words.say(b" is no comparison or membership of sums of numbers: it is ")?;
+    words.say(
+        b" is no comparison of sums of numbers, and no membership of one in NATURAL, NATURAL1 or an interval: it is ",
+    )?;
     words.form(form)?;
     Ok(true)
 }
@@ -165,7 +167,7 @@ fn is_closed(form: &Form) -> bool {
 fn is_closed_set(form: &Form) -> bool {
     match form.view() {
         View::Bin(BinOp::Range, low, high) => closed(low).is_some() && closed(high).is_some(),
-        View::Name(_) => true,
+        View::Name(Domain::Natural | Domain::Natural1) => true,
         _ => false,
     }
 }

@@ -120,17 +120,7 @@ fn line_is_unread(words: &mut Words<'_>, line: &RawLine) -> Result<bool, Memory>
             }
             Ok(false)
         }
-        RawLine::Quotient(fact, by) => {
-            if is_too_large(words, *fact)? {
-                return Ok(true);
-            }
-            if i128::try_from(*by).is_ok() {
-                return Ok(false);
-            }
-            words.natural(*by)?;
-            words.say(b" is past 128 bits: it is no divisor")?;
-            Ok(true)
-        }
+        RawLine::Quotient(fact, _) => is_too_large(words, *fact),
     }
 }
 

@@ -36,7 +36,8 @@ returns-clause-told g c files told =
           states = subst (HasRows c.in_ok-whole.whole.project.development c.in_ok-whole.whole.project.scripts) (sym (listed.2 ∙ c.deref.ensures.value)) c.in_ok-table.ensures.rows;
         };
         strays = listed.1;
-        writes = listed.3;
+        strays_are = (c.in_ok-whole.whole.list.items, c.in_ok-whole.ensures.listed, listed.3);
+        writes = listed.4;
       },
     )
 

@@ -9,4 +9,4 @@ returns c =
     let items = c.in_ok-all.all.items in
     let text = c.in_ok-text.text.items in
     let written = subst (λ (xs : List Item). WritesList c.args.as_json c.args.is_open_only xs c.deref-2.result.now text) c.deref.ensures.value c.in_ok-text.ensures in
-    (items, c.in_ok-others.others.items, c.in_ok-all.ensures, subst (λ (xs : List Stray). WritesList c.args.as_json c.args.is_open_only items xs text) c.deref-2.ensures.value written)
+    (items, c.in_ok-others.others.items, c.in_ok-all.ensures, c.in_ok-others.ensures, subst (λ (xs : List Stray). WritesList c.args.as_json c.args.is_open_only items xs text) c.deref-2.ensures.value written)

@@ -2,7 +2,7 @@ use Rattle.std.proofs.Common.{◌≡◌, ◌⊎◌, sym, subst}
 use Rattle.bk_io.specs.Pieces.{written_with}
 use Rattle.bk_verbs.specs.Stops.{IsCutShort}
 use Rattle.bk_proof_program.specs.Answers.{IsAnswer, IsEnd}
-use Rattle.bk_proof_program.specs.Said.{TellsStop, WritesAnswer}
+use Rattle.bk_proof_program.specs.Said.{WritesAnswer}
 use Rattle.bk_proof_program.specs.declared.answer.Answer.{Answer}
 use Rattle.bk_proof_program.proofs.program.write_answer.Goals as goal
 

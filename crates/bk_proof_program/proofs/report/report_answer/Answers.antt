@@ -38,7 +38,9 @@ returns-clause-told g c files told =
         texts = c.in_ok-whole.whole.files;
         texts_are = c.in_ok-whole.ensures.texts files told;
         inputs = written.2;
-        writes = written.3;
+        made = written.3;
+        strays_are = (c.in_ok-whole.whole.list.items, c.in_ok-whole.ensures.listed, written.4);
+        writes = written.5;
       },
     )
 
