@@ -16,5 +16,5 @@ returns c =
       brought = unmarked;
       none = refl;
       shows = subst (λ t. ShowsBetween t [] table unmarked (map sequent_of (c.args.sequent ∷ [])) text) titled shown;
-      open_is = ap not c.is_obvious.ensures;
+      open_is = ap not c.is_obvious-is_open.ensures;
     }
