@@ -1,4 +1,4 @@
-use Rattle.std.proofs.Common.{Bool, true, false, cond, List, ℕ, [], ◌++◌, sym, ◌∙◌, ap, append-nil}
+use Rattle.std.proofs.Common.{Bool, true, false, cond, [], ◌++◌, sym, ◌∙◌, ap, append-nil}
 use Rattle.bk_evidence.specs.Html.{is_asked, row_part}
 use Rattle.bk_evidence.proofs.html.write_if_asked.Goals as goal
 

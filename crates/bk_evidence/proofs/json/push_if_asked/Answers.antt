@@ -1,6 +1,5 @@
-use Rattle.std.proofs.Common.{false, cond, map, List, [], ◌∷◌, ◌++◌, sym, ◌∙◌, ap}
+use Rattle.std.proofs.Common.{false, cond, map, [], ◌∷◌, ◌++◌, sym, ◌∙◌, ap}
 use Rattle.std.specs.Prelude.{Bool}
-use Rattle.serde_json.specs.Data.{Data}
 use Rattle.serde_json.specs.View.{view}
 use Rattle.bk_evidence.specs.Json.{item_data}
 use Rattle.bk_evidence.proofs.Views.{view_more}

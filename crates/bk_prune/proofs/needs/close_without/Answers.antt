@@ -1,5 +1,5 @@
 use Rattle.std.proofs.Common.{List, length, sym, ◌∙◌, ap, subst, arith}
-use Rattle.std.specs.List.{remove, insert}
+use Rattle.std.specs.List.{insert}
 use Rattle.bk_seq.specs.Sequents.{sequent_of}
 use Rattle.bk_kernel.specs.Derivations.{Derives}
 use Rattle.bk_kernel.specs.declared.rule.Rule.{Rule}

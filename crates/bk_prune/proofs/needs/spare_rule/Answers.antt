@@ -1,4 +1,4 @@
-use Rattle.std.proofs.Common.{◌≡◌, ℕ, ◌<◌, List, length, Option, None}
+use Rattle.std.proofs.Common.{◌≡◌, ℕ, ◌<◌, length, Option, None}
 use Rattle.std.specs.Prelude.{IfSome, IfNone}
 use Rattle.std.specs.List.{remove}
 use Rattle.std.proofs.lemmas.Result.{IfOk-weaker}

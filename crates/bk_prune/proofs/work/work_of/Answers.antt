@@ -1,10 +1,9 @@
-use Rattle.std.proofs.Common.{◌≡◌, ℕ, List, None, find, sym, ◌∙◌, ap, subst}
+use Rattle.std.proofs.Common.{ℕ, List, find, sym, ◌∙◌, ap, subst}
 use Rattle.std.specs.Str.{bytes_eq}
 use Rattle.bk_seq.specs.Sequents.{Types, IsWithin, sequent_of}
 use Rattle.bk_status.specs.States.{name_text}
 use Rattle.bk_status.specs.Replayable.{IsReplayable}
 use Rattle.bk_status.proofs.Outcomes.{types_there, countable}
-use Rattle.bk_prune.specs.Pruned.{obligation_for}
 use Rattle.bk_prune.proofs.Ready.{each_found}
 use Rattle.bk_prune.proofs.work.work_of.Goals as goal
 
