@@ -1,0 +1,5 @@
+pub mod Depths
+pub mod Marks
+pub mod Views
+pub mod Pieces
+pub mod Listed

@@ -1,0 +1,6 @@
+pub mod Texts
+pub mod FirstScripts
+pub mod Finding
+pub mod Causes
+pub mod Ending
+pub mod Strays

@@ -1,0 +1,7 @@
+MACHINE Tally
+VARIABLES n
+INVARIANT n : 0..10
+INITIALISATION n := 0
+OPERATIONS
+  inc(k) = PRE k : 1..10 & n + k <= 10 THEN n := n + k END
+END
