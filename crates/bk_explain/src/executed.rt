@@ -25,7 +25,7 @@ pub(crate) fn say_executed(
     }
     say(
         words,
-        " has a variable from above that is neither a number, a truth value, an element nor an array of these: refine it by such variables\n",
+        " has a variable from above that is not a number, a truth value, an element of a set or an array of these: refine it by such variables\n",
     )
 }
 
@@ -41,22 +41,22 @@ fn say_code(words: &mut Vec<u8>, text: &[u8], list: &[Token], index: usize) -> R
     if is_in_header(text, list, index) {
         return say(
             words,
-            " cannot be given: inputs and outputs are numbers, truth values and elements of sets\n",
+            " cannot be passed: inputs and outputs are numbers, truth values and elements of sets\n",
         );
     }
     if begins_statement(text, list, index) {
         return say(
             words,
-            " begins a statement that is not executed: there are skip, x := E for one variable, f(e) := E of an array and f := D * {E} that fills it, ;, BEGIN, VAR, IF, WHILE and ASSERT\n",
+            " begins a substitution that is not B0: allowed are skip, x := E for one variable, f(e) := E of an array and f := D * {E} that fills it, ;, BEGIN, VAR, IF, WHILE and ASSERT\n",
         );
     }
     say(
         words,
-        " begins a formula that is not executed: there are numbers within INT, truth values, elements, + - * / mod succ pred, arrays at an index, bool(P), and as conditions comparisons with = /= < <= > >=, joined by & or not\n",
+        " begins a formula that is not B0: allowed are numbers within INT, truth values, elements, + - * / mod succ pred, arrays at an index, bool(P), and as conditions comparisons with = /= < <= > >=, joined by & or not\n",
     )
 }
 
-// Whether a token is an input or an output of an operation: behind it `<--` or `=` comes before any statement.
+// Whether a token is an input or an output of an operation: after it `<--` or `=` comes before any statement.
 fn is_in_header(text: &[u8], list: &[Token], index: usize) -> bool {
     for place in index..list.len() {
         let word = word_at(text, list, place.saturating_add(1));
@@ -116,7 +116,7 @@ fn begins_statement(text: &[u8], list: &[Token], index: usize) -> bool {
     ) || (before == b"=".as_slice() && starts_body(text, list, index))
 }
 
-// Whether a body begins at a token behind `=`: what stands there is written.
+// Whether a body begins at a token after `=`: what stands there is written.
 fn starts_body(text: &[u8], list: &[Token], index: usize) -> bool {
     for place in index..list.len() {
         let word = word_at(text, list, place.saturating_add(1));

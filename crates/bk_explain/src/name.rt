@@ -43,7 +43,7 @@ fn say_twice(
     if source.kind == SourceKind::Proofs {
         return say(
             words,
-            "a script of this name stands before it, in this file or in one before\n",
+            "another script has this name already, in this file or in one before it\n",
         );
     }
     let Some(token) = list.get(index) else {
@@ -52,13 +52,13 @@ fn say_twice(
     let name = written(source.text, token);
     say_quoted(words, name)?;
     if let Some(at) = brought_before(source.text, list, index) {
-        say(words, " stands twice; it stands first at ")?;
+        say(words, " is declared twice; it is declared first at ")?;
         say_place(words, source, at)?;
         return say(words, "\n");
     }
-    say(words, " has a meaning already")?;
+    say(words, " is declared already")?;
     if let Some((above, at)) = declared_above(alloc, sources, source, name)? {
-        say(words, ", from ")?;
+        say(words, ", at ")?;
         say_place(words, above, at)?;
     }
     say(words, "\n")
@@ -119,7 +119,7 @@ fn is_declared(text: &[u8], list: &[Token], index: usize) -> bool {
         )
 }
 
-// Whether an operation is named by a token: `=` stands behind it, or behind what is given to it.
+// Whether an operation is named by a token: `=` stands after it, or after what is given to it.
 fn names_operation(text: &[u8], list: &[Token], index: usize) -> bool {
     if !is_one_of(word_before(text, list, index), &["OPERATIONS", ";", "<--"]) {
         return false;
@@ -132,7 +132,7 @@ fn names_operation(text: &[u8], list: &[Token], index: usize) -> bool {
     }
 }
 
-// Whether `=` stands behind the first parenthesis that closes behind a token.
+// Whether `=` stands after the first parenthesis that closes after a token.
 fn closes_header(text: &[u8], list: &[Token], open: usize) -> bool {
     for place in open..list.len() {
         if word_at(text, list, place) == b")".as_slice() {
@@ -203,14 +203,14 @@ fn say_unknown(
     if let TokenKind::LevelName(_, _) = &token.kind {
         return say(
             words,
-            " is the old value of a variable: it stands in P of x :(P) alone\n",
+            " is the old value of a variable: it is allowed only in P of x :(P)\n",
         );
     }
-    say(words, " is not in sight here")?;
+    say(words, " is not visible here")?;
     let names = other_names(alloc, source, list, name)?;
     if let Some(place) = nearest(alloc, name, &names)? {
         if let Some(near) = names.get(place) {
-            say(words, "; near it is ")?;
+            say(words, "; the nearest name is ")?;
             say_quoted(words, *near)?;
         }
     }
@@ -237,7 +237,7 @@ fn other_names<'a>(
     Ok(names)
 }
 
-// Whether the name of a component stands behind a word.
+// Whether the name of a component stands after a word.
 fn names_component(word: &[u8]) -> bool {
     matches!(
         word,
@@ -268,12 +268,12 @@ fn say_untyped(
         say_quoted(words, name)?;
         return say(
             words,
-            " is no value, since it is not finite: it stands behind : and within POW, *, and the arrows alone\n",
+            " is not a value, since it is infinite: it is allowed only after : and within POW, * and the arrows\n",
         );
     }
     say(
         words,
-        "this formula has no type, or another one than its place asks: both sides of = and of an operator on sets are of one type, numbers stand beside + - * < <=, and {} has the type that its place tells\n",
+        "this formula has no type, or not the one that is needed here: both sides of = and of an operator on sets have one type, the operands of + - * < <= are numbers, and {} has the type that its context gives\n",
     )
 }
 
@@ -297,7 +297,7 @@ fn say_type_wanted(words: &mut Vec<u8>, name: &[u8], place: TypePlace) -> Result
         }
         TypePlace::Assignment => say(
             words,
-            " has no type: it takes that of the first term that is written to it, and none with a type is\n",
+            " has no type: it takes the type of the first term that is assigned to it, and there is none\n",
         ),
     }
 }
@@ -334,11 +334,11 @@ fn place_in_parentheses(text: &[u8], list: &[Token], open: usize) -> Option<Type
     None
 }
 
-// Of names behind a word or a sign.
+// Of names after a word or a sign.
 fn place_behind(word: &[u8]) -> Option<TypePlace> {
     match word {
         b"!" => Some(TypePlace::Conjunct(" before the => of the quantifier\n")),
-        b"#" | b"{" | b"%" => Some(TypePlace::Conjunct(" as a conjunct to what it binds\n")),
+        b"#" | b"{" | b"%" => Some(TypePlace::Conjunct(" as a conjunct of the predicate that it binds\n")),
         b"VAR" | b"OPERATIONS" | b";" => Some(TypePlace::Assignment),
         b"ANY" => Some(TypePlace::Conjunct(" to WHERE\n")),
         _ => None,
@@ -374,18 +374,18 @@ fn say_kind(
 ) -> Result<(), Memory> {
     let text = source.text;
     if is_strict_within(text, list, index) {
-        return say(words, "a side of <<: has no <<: of its own\n");
+        return say(words, "neither side of <<: may contain another <<:\n");
     }
     let (open, before) = behind_parentheses(text, list, index);
     if asks_predicate(text, list, open, before) {
         say(
             words,
-            "a predicate is needed here, as n < 3 or x : S is one, and this is a value; b = TRUE is the predicate of a truth value\n",
+            "a predicate is needed here, such as n < 3 or x : S, and this is an expression; of a truth value b the predicate is b = TRUE\n",
         )
     } else {
         say(
             words,
-            "a value is needed here, and this is a predicate; bool(P) is the truth value of one\n",
+            "an expression is needed here, and this is a predicate; bool(P) is the truth value of P\n",
         )
     }
 }
@@ -469,7 +469,7 @@ fn closes(word: &[u8]) -> bool {
     is_one_of(word, &[")", "}", "]"])
 }
 
-// Whether another formula begins behind a word.
+// Whether another formula begins after a word.
 fn parts_formulas(word: &[u8]) -> bool {
     is_one_of(
         word,
@@ -492,7 +492,7 @@ fn behind_parentheses(text: &[u8], list: &[Token], index: usize) -> (usize, usiz
     (open, 0)
 }
 
-// Whether a predicate is asked behind a token and so many parentheses.
+// Whether a predicate is asked after a token and so many parentheses.
 fn asks_predicate(text: &[u8], list: &[Token], open: usize, before: usize) -> bool {
     let behind = before.saturating_add(open).saturating_add(1);
     if is_one_of(word_at(text, list, behind), &["not", "!", "#"]) {
@@ -507,7 +507,7 @@ fn asks_predicate(text: &[u8], list: &[Token], open: usize, before: usize) -> bo
     }
 }
 
-// Whether predicates stand behind a word.
+// Whether predicates stand after a word.
 fn joins_predicates(word: &[u8]) -> bool {
     is_one_of(
         word,
@@ -550,7 +550,7 @@ fn encloses<'a>(text: &'a [u8], list: &[Token], index: usize) -> &'a [u8] {
     &[]
 }
 
-// Whether an operator on values stands behind the parenthesis that is open at a token.
+// Whether an operator on values stands after the parenthesis that is open at a token.
 fn is_operand(text: &[u8], list: &[Token], index: usize) -> bool {
     let mut open = 0usize;
     for place in index..list.len() {

@@ -13,7 +13,7 @@ use bk_io::{Memory, Text};
 use bk_verbs::Stop;
 use std::alloc::Global;
 
-/// What a stop means, in words behind the line that tells it. The sources are the files that were read.
+/// What a stop means, in words after the line that tells it. The sources are the files that were read.
 pub fn explanation(alloc: Global, stop: &Stop, sources: &[Source<'_>]) -> Result<Vec<u8>, Memory> {
     let mut words = Vec::new(alloc);
     match stop {
@@ -25,7 +25,7 @@ pub fn explanation(alloc: Global, stop: &Stop, sources: &[Source<'_>]) -> Result
         Stop::Unproved(name) => say_unproved(&mut words, name)?,
         Stop::Incomplete(_) => say(
             &mut words,
-            "the last component is no implementation, so that there is nothing to run\n",
+            "the last component is not an implementation, so there is nothing to run\n",
         )?,
         Stop::BadCalls(line) => say_calls(alloc, &mut words, sources, *line as usize)?,
         Stop::BadImage(fault) => say_image(&mut words, *fault)?,

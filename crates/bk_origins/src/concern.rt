@@ -7,7 +7,7 @@ ghost use Rattle.bk_origins.specs.Concerns.{concern_of, concern_by, dots, behind
 #[derive(Clone, Copy, PartialEq, Eq, Debug)]
 pub enum Concern {
     Initialisation,
-    /// That an operation keeps the invariant, and does what the level above allows.
+    /// That an operation preserves the invariant, and refines the one above.
     Operation,
     Assertion,
     /// That the values of constants meet the properties.
@@ -36,7 +36,7 @@ fn dots(name: &[u8]) -> usize
     name.iter().filter(|byte| **byte == b'.').count()
 }
 
-// What stands behind the first one.
+// What stands after the first one.
 fn behind_dot(name: &[u8]) -> &[u8]
     ensures { result.now ≡ behind_dot name.now }
 {

@@ -84,9 +84,9 @@ impl Site<'_> {
     fn say_clause(&self, words: &mut Vec<u8>, clause: Clause) -> Result<(), Memory> {
         match clause {
             Clause::Values => words.extend_from_slice(
-                b"the constants' values meet the properties",
+                b"the values of the constants satisfy the properties",
             )?,
-            Clause::Assertions => words.extend_from_slice(b"an assertion follows")?,
+            Clause::Assertions => words.extend_from_slice(b"an assertion follows from those before it")?,
             Clause::Initialisation => self.say_start(words)?,
             _ => self.say_operation(words, clause)?,
         }
@@ -95,9 +95,9 @@ impl Site<'_> {
 
     fn say_start(&self, words: &mut Vec<u8>) -> Result<(), Memory> {
         words.extend_from_slice(if self.number == 0 {
-            b"the initialisation meets the invariant"
+            b"the initialisation establishes the invariant"
         } else {
-            b"the initialisation is one that the level above allows, and meets the invariant"
+            b"the initialisation refines the one above, and establishes the invariant"
         })?;
         Ok(())
     }
@@ -107,9 +107,9 @@ impl Site<'_> {
             words.extend_from_slice(self.operation_name(operation))?;
         }
         words.extend_from_slice(if self.number == 0 {
-            b" keeps the invariant"
+            b" preserves the invariant"
         } else {
-            b" does what the level above allows, and keeps the invariant"
+            b" refines the operation above, and preserves the invariant"
         })?;
         Ok(())
     }
@@ -120,22 +120,22 @@ impl Site<'_> {
             What::Conjunct(number) => self.say_conjunct(words, clause, number),
             What::Linked(variable) => self.say_linked(words, clause, variable),
             What::Output(number) => {
-                self.say_numbered(words, b"output ", number, b" is as above", clause)
+                self.say_numbered(words, b"output ", number, b" equals the one above", clause)
             }
-            What::Condition => self.say_with(words, b"a condition holds", clause),
+            What::Condition => self.say_with(words, b"a condition of PRE, ASSERT or SELECT holds", clause),
             What::AtFirst => {
                 self.say_with(
                     words,
-                    b"loop: the invariant holds before the first turn",
+                    b"loop: the invariant holds on entry",
                     clause,
                 )
             }
-            What::Kept => self.say_with(words, b"loop: a turn keeps the invariant", clause),
+            What::Kept => self.say_with(words, b"loop: the body preserves the invariant", clause),
             What::Natural => {
                 self.say_with(words, b"loop: the variant is a natural number", clause)
             }
             What::Falls => self.say_with(words, b"loop: the variant falls", clause),
-            What::Behind => self.say_with(words, b"loop: what follows is met", clause),
+            What::Behind => self.say_with(words, b"loop: what follows holds on exit", clause),
             What::Whole => self.say_clause(words, clause),
         }
     }
@@ -177,19 +177,19 @@ impl Site<'_> {
                 words.extend_from_slice(b" is preserved by ")?;
                 words.extend_from_slice(self.operation_name(operation))?;
             }
-            _ => words.extend_from_slice(b" holds at the start")?,
+            _ => words.extend_from_slice(b" is established by the initialisation")?,
         }
         Ok(())
     }
 
-    // `stock is as above in take`.
+    // `stock$1 equals the variable above in take`.
     fn say_linked(&self, words: &mut Vec<u8>, clause: Clause, variable: u32) -> Result<(), Memory> {
         let dev = self.dev;
         match dev.table.text(variable) {
             Some(text) => words.extend_from_slice(text.as_bytes())?,
             None => words.extend_from_slice(b"a variable")?,
         }
-        words.extend_from_slice(b" is as in the level above")?;
+        words.extend_from_slice(b" equals the variable above")?;
         self.say_where(words, clause)
     }
 }
