@@ -215,10 +215,7 @@ fn say_without_value(
             }
         }
     }
-    say(
-        words,
-        "a constant has no value: add an entry to VALUES\n",
-    )
+    say(words, "a constant has no value: add an entry to VALUES\n")
 }
 
 // The first of these names for which the component has no entry.

@@ -338,7 +338,9 @@ fn place_in_parentheses(text: &[u8], list: &[Token], open: usize) -> Option<Type
 fn place_behind(word: &[u8]) -> Option<TypePlace> {
     match word {
         b"!" => Some(TypePlace::Conjunct(" before the => of the quantifier\n")),
-        b"#" | b"{" | b"%" => Some(TypePlace::Conjunct(" as a conjunct of the predicate that it binds\n")),
+        b"#" | b"{" | b"%" => Some(TypePlace::Conjunct(
+            " as a conjunct of the predicate that it binds\n",
+        )),
         b"VAR" | b"OPERATIONS" | b";" => Some(TypePlace::Assignment),
         b"ANY" => Some(TypePlace::Conjunct(" to WHERE\n")),
         _ => None,

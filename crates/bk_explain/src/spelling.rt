@@ -430,9 +430,7 @@ fn hint_of(text: &[u8]) -> Option<&'static str> {
 fn hint_of_word(text: &[u8]) -> Option<&'static str> {
     match text {
         b"CONSTRAINTS" => Some(" is not read: a machine has no parameters"),
-        b"DEFINITIONS" => {
-            Some(" is not read: write each definition out where it is used")
-        }
+        b"DEFINITIONS" => { Some(" is not read: write each definition out where it is used") }
         b"ABSTRACT_CONSTANTS" => Some(
             " is not read: constants are numbers, truth values or elements, declared in CONSTANTS",
         ),

@@ -13,7 +13,7 @@ pub(crate) fn defined_words(goal: &Form) -> &'static [u8] {
         View::Bin(BinOp::In, _, set) => member_words(set),
         View::Bin(BinOp::Imp, _, asked) => defined_words(asked),
         View::All(_, body) => defined_words(body),
-        _ => b"the term is defined",
+        _ => b"each term is defined",
     }
 }
 
@@ -35,9 +35,9 @@ fn denied_words(operand: &Form) -> &'static [u8] {
         View::Bin(BinOp::Eq, _, right) => match right.view() {
             View::Int(0) => b"the divisor is not 0",
             View::Empty(_) => b"the set of min or max is not empty",
-            _ => b"the term is defined",
+            _ => b"each term is defined",
         },
-        _ => b"the term is defined",
+        _ => b"each term is defined",
     }
 }
 
@@ -86,6 +86,6 @@ fn member_words(set: &Form) -> &'static [u8] {
     match set.view() {
         View::Bin(BinOp::PartialFunctions, _, _) => b"what is applied is a function",
         View::Un(UnOp::Dom, _) => b"the argument is in the function's domain",
-        _ => b"the term is defined",
+        _ => b"each term is defined",
     }
 }

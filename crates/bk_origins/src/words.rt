@@ -86,7 +86,9 @@ impl Site<'_> {
             Clause::Values => words.extend_from_slice(
                 b"the values of the constants satisfy the properties",
             )?,
-            Clause::Assertions => words.extend_from_slice(b"an assertion follows from those before it")?,
+            Clause::Assertions => words.extend_from_slice(
+                b"an assertion follows from those before it",
+            )?,
             Clause::Initialisation => self.say_start(words)?,
             _ => self.say_operation(words, clause)?,
         }
@@ -122,14 +124,12 @@ impl Site<'_> {
             What::Output(number) => {
                 self.say_numbered(words, b"output ", number, b" equals the one above", clause)
             }
-            What::Condition => self.say_with(words, b"a condition of PRE, ASSERT or SELECT holds", clause),
-            What::AtFirst => {
-                self.say_with(
-                    words,
-                    b"loop: the invariant holds on entry",
-                    clause,
-                )
-            }
+            What::Condition => self.say_with(
+                words,
+                b"a condition of PRE, ASSERT or SELECT holds",
+                clause,
+            ),
+            What::AtFirst => { self.say_with(words, b"loop: the invariant holds on entry", clause) }
             What::Kept => self.say_with(words, b"loop: the body preserves the invariant", clause),
             What::Natural => {
                 self.say_with(words, b"loop: the variant is a natural number", clause)

@@ -205,7 +205,9 @@ fn say_at(
                 token,
                 b"",
             )?;
-            words.say(b"; the empty set of a type T is {:T}, and NATURAL and INTEGER are not values")
+            words.say(
+                b"; the empty set of a type T is {:T}, and NATURAL and INTEGER are not values",
+            )
         }
         9 => say_quoted(
             words,
