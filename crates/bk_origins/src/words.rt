@@ -63,6 +63,11 @@ impl Site<'_> {
     // ` in take`, ` in the invariant`.
     fn say_where(&self, words: &mut Vec<u8>, clause: Clause) -> Result<(), Memory> {
         words.extend_from_slice(b" in ")?;
+        self.say_site(words, clause)
+    }
+
+    // `take`, `the invariant`.
+    fn say_site(&self, words: &mut Vec<u8>, clause: Clause) -> Result<(), Memory> {
         match clause {
             Clause::PropertiesDefined => words.extend_from_slice(b"the properties")?,
             Clause::Values => words.extend_from_slice(b"the values")?,
@@ -120,10 +125,8 @@ impl Site<'_> {
     fn say_leaf(&self, words: &mut Vec<u8>, clause: Clause, leaf: Leaf) -> Result<(), Memory> {
         match leaf.what {
             What::Conjunct(number) => self.say_conjunct(words, clause, number),
-            What::Linked(variable) => self.say_linked(words, clause, variable),
-            What::Output(number) => {
-                self.say_numbered(words, b"output ", number, b" equals the one above", clause)
-            }
+            What::Linked(variable, above) => self.say_linked(words, clause, variable, above),
+            What::Output(number) => self.say_output(words, clause, number),
             What::Condition => self.say_with(
                 words,
                 b"a condition of PRE, ASSERT or SELECT holds",
@@ -145,18 +148,14 @@ impl Site<'_> {
         self.say_where(words, clause)
     }
 
-    fn say_numbered(
-        &self,
-        words: &mut Vec<u8>,
-        before: &[u8],
-        number: usize,
-        behind: &[u8],
-        clause: Clause,
-    ) -> Result<(), Memory> {
-        words.extend_from_slice(before)?;
+    // `output 1 of count equals the one above`.
+    fn say_output(&self, words: &mut Vec<u8>, clause: Clause, number: usize) -> Result<(), Memory> {
+        words.extend_from_slice(b"output ")?;
         words.extend_from_slice(Buffer::new().format(number).as_bytes())?;
-        words.extend_from_slice(behind)?;
-        self.say_where(words, clause)
+        words.extend_from_slice(b" of ")?;
+        self.say_site(words, clause)?;
+        words.extend_from_slice(b" equals the one above")?;
+        Ok(())
     }
 
     // `invariant conjunct 3 is preserved by take`.
@@ -182,14 +181,27 @@ impl Site<'_> {
         Ok(())
     }
 
-    // `stock$1 equals the variable above in take`.
-    fn say_linked(&self, words: &mut Vec<u8>, clause: Clause, variable: u32) -> Result<(), Memory> {
+    // `stock$1 = stock$0 after take`.
+    fn say_linked(
+        &self,
+        words: &mut Vec<u8>,
+        clause: Clause,
+        variable: u32,
+        above: u32,
+    ) -> Result<(), Memory> {
+        self.say_variable(words, variable)?;
+        words.extend_from_slice(b" = ")?;
+        self.say_variable(words, above)?;
+        words.extend_from_slice(b" after ")?;
+        self.say_site(words, clause)
+    }
+
+    fn say_variable(&self, words: &mut Vec<u8>, variable: u32) -> Result<(), Memory> {
         let dev = self.dev;
         match dev.table.text(variable) {
             Some(text) => words.extend_from_slice(text.as_bytes())?,
             None => words.extend_from_slice(b"a variable")?,
         }
-        words.extend_from_slice(b" equals the variable above")?;
-        self.say_where(words, clause)
+        Ok(())
     }
 }
