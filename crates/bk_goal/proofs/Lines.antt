@@ -10,7 +10,7 @@ use Rattle.bk_seq.specs.Sequents.{Sequent, sequent_of}
 use Rattle.bk_goal.specs.Shown.{ShowsHypothesis, ShowsHypotheses, ShowsTitled, ShowsFrom, ShowsBetween, old_at, title}
 use Rattle.bk_goal.specs.declared.brought.Brought.{Brought}
 
--- three pieces, one behind another
+-- three pieces, one after another
 pub joined : (one two new a b c : List ℕ) → one ≡ a → two ≡ one ++ b → new ≡ two ++ c → new ≡ a ++ b ++ c
 joined one two new a b c e f g = g ∙ ap (λ t. t ++ c) (f ∙ ap (λ t. t ++ b) e)
 
@@ -22,7 +22,7 @@ titled_by one two three new a b c d e f g h = h ∙ ap (λ t. t ++ d) (joined on
 is_more : (k : ℕ) → 0 < k → nat_eq k 0 ≡ false
 is_more k h = grind (arith, nat_tests)
 
--- the title behind some rules
+-- the title after some rules
 pub title_of_some : (name : List ℕ) (k rules : ℕ) (text : List ℕ) → 0 < k → text ≡ name ++ (codes ", after rule " ++ decimal k) ++ (codes " of " ++ decimal rules) → text ≡ title name k rules
 title_of_some name k rules text h e =
     e ∙ sym (ap (λ b. cond b (name ++ (codes ", before the first of " ++ decimal rules) ++ codes " rules") (name ++ (codes ", after rule " ++ decimal k) ++ (codes " of " ++ decimal rules))) (is_more k h))

@@ -55,17 +55,17 @@ pub record ShowsSequent (table : Table) (old : Option ℕ) (s : Sequent) (text :
   pub shows_goal : ShowsFormula table s.1 goal
   pub whole : text ≡ hypotheses ++ codes "  goal: " ++ goal
 
--- a sequent behind its title
+-- a sequent after its title
 pub record ShowsTitled (table : Table) (old : Option ℕ) (n count : ℕ) (s : Sequent) (text : List ℕ) : Type 0 where
   pub lines : List ℕ
   pub shows : ShowsSequent table old s lines
   pub titled : text ≡ (codes "sequent " ++ decimal n) ++ (codes " of " ++ decimal count) ++ codes "\n" ++ lines
 
--- behind which of its hypotheses those stand that a rule brought, if the sequent of this number came of it
+-- after which of its hypotheses those stand that a rule brought, if the sequent of this number came of it
 abbrev pub old_at : Brought → ℕ → Option ℕ
 old_at brought n = cond (nat_lt brought.news n) None (Some brought.old)
 
--- sequents that number so many, from this one on, each behind its title
+-- sequents that number so many, from this one on, each after its title
 abbrev pub ShowsFrom : Table → Brought → ℕ → ℕ → List Sequent → List ℕ → Type 0
 ShowsFrom table brought count n [] text = text ≡ []
 ShowsFrom table brought count n (s ∷ ss) text =
@@ -88,12 +88,12 @@ abbrev pub hypotheses_of_first : List Sequent → ℕ
 hypotheses_of_first [] = 0
 hypotheses_of_first (first ∷ others) = length first.0
 
--- how many of the sequents behind a rule came of it, where these were open before it
+-- how many of the sequents after a rule came of it, where these were open before it
 abbrev pub came_of_first : List Sequent → ℕ → ℕ
 came_of_first [] left = 0
 came_of_first (first ∷ others) left = left - length others
 
--- what rule k brought, behind which these are left: the sequents that came of it stand before those that were there, and their hypotheses
+-- what rule k brought, after which these are left: the sequents that came of it stand before those that were there, and their hypotheses
 -- past the ones that there were are new
 pub record IsBrought (table : Table) (rules : List Rule) (s : Sequent) (k : ℕ) (left : List Sequent) (brought : Brought) : Type 0 where
   pub done : ℕ
@@ -113,13 +113,13 @@ abbrev pub place_of_rule : Found → Option RawRule → List ℕ
 place_of_rule found None = []
 place_of_rule found (Some rule) = place_text found.file.now found.text.now rule.at
 
--- an obligation's name, and behind how many of so many rules
+-- an obligation's name, and after how many of so many rules
 abbrev pub title : List ℕ → ℕ → ℕ → List ℕ
 title name k rules = cond (nat_eq k 0)
     (name ++ (codes ", before the first of " ++ decimal rules) ++ codes " rules")
     (name ++ (codes ", after rule " ++ decimal k) ++ (codes " of " ++ decimal rules))
 
--- the line over what is left behind k of so many rules, with the place of rule k
+-- the line over what is left after k of so many rules, with the place of rule k
 abbrev pub header : List ℕ → Found → ℕ → ℕ → List ℕ
 header name found k rules = title name k rules ++ place_of_rule found (numbered_item found.script.now.rules k) ++ codes "\n"
 
@@ -137,7 +137,7 @@ abbrev pub TellsMisfit : Bool → List ℕ → Type 0
 TellsMisfit true text = (words : List ℕ) × (text ≡ codes "  does not fit: " ++ words ++ codes "\n")
 TellsMisfit false text = text ≡ []
 
--- the rule behind the first k, of which so many are asked for
+-- the rule after the first k, of which so many are asked for
 pub record TellsRule (found : Found) (k asked : ℕ) (rule : RawRule) (text : List ℕ) : Type 0 where
   pub length_written : ℕ
   pub misfit : List ℕ
@@ -148,12 +148,12 @@ pub record TellsRule (found : Found) (k asked : ℕ) (rule : RawRule) (text : Li
 abbrev pub end_text : ℕ → List ℕ
 end_text left = cond (nat_eq left 0) (codes "nothing is open: the script proves it\n") (codes "all rules fit, and the script ends here\n")
 
--- what comes behind the first k rules
+-- what comes after the first k rules
 abbrev pub TellsNext : Found → (k asked left : ℕ) → Option RawRule → List ℕ → Type 0
 TellsNext found k asked left None text = text ≡ end_text left
 TellsNext found k asked left (Some rule) text = TellsRule found k asked rule text
 
--- what comes behind the first k rules of the script, where these sequents are left
+-- what comes after the first k rules of the script, where these sequents are left
 abbrev pub TellsRest : Found → (k asked : ℕ) → List Sequent → List ℕ → Type 0
 TellsRest found k asked left text = TellsNext found k asked (length left) (numbered_item found.script.now.rules (k + 1)) text
 
@@ -176,7 +176,7 @@ count_asked None rules = rules
 count_asked (Some at) rules = min at rules
 
 -- of the rules that the script stands for those that are asked for go so far on the sequent, and what is shown is exactly what the
--- kernel's definition leaves behind them; then the next rule is told, and whether it does not fit. It is open where a sequent is left, or
+-- kernel's definition leaves after them; then the next rule is told, and whether it does not fit. It is open where a sequent is left, or
 -- a rule that is asked for does not fit
 pub record ShowsAfter (dev : Development) (found : Found) (at : Option ℕ) (o : Named) (text : List ℕ) (is_open : Bool) : Type 0 where
   pub rules : List Rule
@@ -199,7 +199,7 @@ pub record ShowsAlone (table : Table) (o : Named) (text : List ℕ) (is_open : B
   pub shows : ShowsBetween (title_alone o.0 is_open) [] table brought (o.1 ∷ []) text
   pub open_is : is_open ≡ not (is_obvious o.1.0 o.1.1)
 
--- what is open of an obligation with a script behind the rules that are asked for, and of one without a script
+-- what is open of an obligation with a script after the rules that are asked for, and of one without a script
 abbrev pub ShowsGoal : Development → Option Found → Option ℕ → Named → List ℕ → Bool → Type 0
 ShowsGoal dev (Some found) at o text is_open = ShowsAfter dev found at o text is_open
 ShowsGoal dev None at o text is_open = ShowsAlone dev.table o text is_open

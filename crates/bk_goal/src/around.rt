@@ -150,7 +150,7 @@ fn written_at<'a>(found: Found<'a>, rule: &RawRule) -> &'a [u8]
     rule_text(found.text, found.tokens, rule.at)
 }
 
-/// What stands behind the last rule, where so many sequents are left.
+/// What stands after the last rule, where so many sequents are left.
 pub(crate) fn end_text(alloc: Global, left: usize) -> Result<Vec<u8>, Memory>
     ensures { IfOk result (λ text. text.items ≡ meant.end_text left) }
 {

@@ -26,6 +26,6 @@ pub struct Asked<'a> {
     pub found: Option<Found<'a>>,
     /// What the texts of the components call bound variables.
     pub notes: &'a [Note],
-    /// Behind which rule the sequents are shown; where it is not said, behind the last one that fits.
+    /// After which rule the sequents are shown; where it is not said, after the last one that fits.
     pub at: Option<usize>,
 }

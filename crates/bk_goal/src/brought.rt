@@ -11,7 +11,7 @@ use bk_replay::{Standing, open_after};
 use bk_seq::Sequent;
 use std::alloc::Global;
 
-/// What the last rule brought: in the first `news` of the sequents that are open behind it the hypotheses past the first `old` ones.
+/// What the last rule brought: in the first `news` of the sequents that are open after it the hypotheses past the first `old` ones.
 #[derive(Clone, Copy)]
 pub struct Brought {
     pub old: usize,
@@ -36,7 +36,7 @@ pub(crate) fn last_brought(
     Ok(brought_between(&before.left, &standing.left))
 }
 
-// What a rule brought before which these sequents were open, and behind which those are.
+// What a rule brought before which these sequents were open, and after which those are.
 #[tactic(auto, using(crate::proofs::Lines::length_held))]
 fn brought_between(before: &[Sequent], left: &[Sequent]) -> Brought
     ensures old { result.old ≡ hypotheses_of_first (map sequent_of before.now) }

@@ -1,4 +1,4 @@
-//! What is open behind the rules of a script.
+//! What is open after the rules of a script.
 
 ghost use Rattle.std.specs.Prelude.{◌≡◌, ◌<◌, ◌^◌, ◌||◌, true, nat_lt, [], ◌∷◌, length, map, IfOk, IfSome};
 ghost use Rattle.bk_dev.specs.Flattened.{flattened};
@@ -33,7 +33,7 @@ pub struct GoalText {
     pub is_open: bool,
 }
 
-/// What is open of the obligation behind the rules that are asked for, and the rule that comes next, with the reason where it does not
+/// What is open of the obligation after the rules that are asked for, and the rule that comes next, with the reason where it does not
 /// fit. Without a script it is the obligation itself.
 pub fn goal_text(alloc: Global, asked: Asked<'_>) -> Result<GoalText, Memory>
     requires table { asked.table.now ≡ (flattened asked.dev.now).table }
@@ -88,7 +88,7 @@ fn between(
     Ok(text)
 }
 
-// What is open behind rules of the script.
+// What is open after rules of the script.
 fn behind_rules(
     alloc: Global,
     asked: Asked<'_>,
@@ -106,7 +106,7 @@ fn behind_rules(
     behind_grounded(alloc, asked, found, sequent, &rules, &table)
 }
 
-// What is open behind the rules for which those of the script stand.
+// What is open after the rules for which those of the script stand.
 fn behind_grounded(
     alloc: Global,
     asked: Asked<'_>,

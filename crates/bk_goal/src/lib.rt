@@ -1,4 +1,4 @@
-//! What is open behind the rules of a script, as a text, and why the next rule does not fit.
+//! What is open after the rules of a script, as a text, and why the next rule does not fit.
 #![tactic(auto)]
 
 mod around;

@@ -359,7 +359,7 @@ fn is_shaped(shape: &[u8], form: &Form) -> bool {
     }
 }
 
-// What is left of binders and connectives behind those of a formula.
+// What is left of binders and connectives after those of a formula.
 fn rest_behind<'a>(shape: &'a [u8], form: &Form) -> Option<&'a [u8]> {
     match form.view() {
         View::All(types, body) => rest_behind(behind_signs(shape, b'!', types.len())?, body),
@@ -380,7 +380,7 @@ fn behind_connective<'a>(shape: &'a [u8], form: &Form) -> Option<&'a [u8]> {
     }
 }
 
-// What stands behind so many of a sign.
+// What stands after so many of a sign.
 fn behind_signs(shape: &[u8], sign: u8, count: usize) -> Option<&[u8]> {
     if shape.len() < count {
         return None;

@@ -41,7 +41,7 @@ pub fn sequents_text(
     Ok(text)
 }
 
-// Behind how many hypotheses of the sequent with this number those stand that a rule brought, if the sequent came of it.
+// After how many hypotheses of the sequent with this number those stand that a rule brought, if the sequent came of it.
 fn old_at(brought: Brought, number: usize) -> Option<usize>
     ensures { result ≡ meant.old_at brought number }
 {
@@ -52,7 +52,7 @@ fn old_at(brought: Brought, number: usize) -> Option<usize>
     }
 }
 
-// A sequent behind its title, `sequent 1 of 2`; its hypotheses behind so many are marked.
+// A sequent after its title, `sequent 1 of 2`; its hypotheses after so many are marked.
 fn titled_text(
     alloc: Global,
     table: &VarTable,
@@ -72,7 +72,7 @@ fn titled_text(
     Ok(text)
 }
 
-// A sequent; its hypotheses behind so many are marked.
+// A sequent; its hypotheses after so many are marked.
 fn sequent_text(
     alloc: Global,
     table: &VarTable,
@@ -89,7 +89,7 @@ fn sequent_text(
     Ok(text)
 }
 
-// The hypotheses, of which those behind so many are marked.
+// The hypotheses, of which those after so many are marked.
 fn hypotheses_text(
     alloc: Global,
     table: &VarTable,
@@ -126,7 +126,7 @@ fn hypothesis_text(
     Ok(text)
 }
 
-// The mark before a hypothesis with this number; those behind so many have one.
+// The mark before a hypothesis with this number; those after so many have one.
 fn mark_of(old: Option<usize>, number: usize) -> &'static [u8]
     ensures { result.now ≡ meant.mark_of old number }
 {
@@ -166,7 +166,7 @@ fn names_line(alloc: Global, words: &[u8]) -> Result<Vec<u8>, Memory>
     Ok(line)
 }
 
-/// A count behind words.
+/// A count after words.
 pub(crate) fn count_text(alloc: Global, before: &[u8], count: usize) -> Result<Vec<u8>, Memory>
     ensures { IfOk result (λ text. text.items ≡ before.now ++ decimal count) }
 {
@@ -175,7 +175,7 @@ pub(crate) fn count_text(alloc: Global, before: &[u8], count: usize) -> Result<V
     Ok(text)
 }
 
-/// Writes a count behind words.
+/// Writes a count after words.
 pub(crate) fn write_count(text: &mut Vec<u8>, before: &[u8], count: usize) -> Result<(), Memory>
     ensures { OnOk result (text.new.items ≡ text.old.items ++ (before.now ++ decimal count)) }
 {

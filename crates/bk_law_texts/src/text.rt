@@ -7,7 +7,7 @@ use crate::table::laws_text;
 /// A law in words.
 #[derive(Clone, Copy)]
 pub struct LawText {
-    /// Its number: that behind the letter G, 100 more of O, 200 more of S, 300 more of M.
+    /// Its number: that after the letter G, 100 more of O, 200 more of S, 300 more of M.
     pub number: u16,
     pub name: &'static str,
     /// The letters of the terms that it takes, in order.

@@ -92,7 +92,7 @@ fn laid_tokens(
     Ok(writer.out)
 }
 
-// The byte behind the token with this number; that one where there is no such token.
+// The byte after the token with this number; that one where there is no such token.
 fn end_of(tokens: &[Token], number: usize, end: usize) -> usize {
     match tokens.get(number) {
         Some(token) => token.end,
@@ -109,12 +109,12 @@ struct Writer<'a> {
     // Those around the last one.
     groups: Vec<Group>,
     last: Group,
-    // The byte behind the token before.
+    // The byte after the token before.
     end: usize,
 }
 
 impl Writer<'_> {
-    // Writes a token behind a gap or a line end; the token with the number `closing` closes the bracket that it opens, at the byte
+    // Writes a token after a gap or a line end; the token with the number `closing` closes the bracket that it opens, at the byte
     // `end`.
     fn write(
         &mut self,
@@ -173,7 +173,7 @@ impl Writer<'_> {
         self.put(from, end)
     }
 
-    // Puts what stands behind the last token.
+    // Puts what stands after the last token.
     fn put_rest(&mut self) -> Result<(), Memory> {
         let (start, end) = (self.end, self.text.len());
         self.put(start, end)
@@ -188,7 +188,7 @@ impl Writer<'_> {
     }
 }
 
-// The byte behind the last one between these places that is no blank and no line end.
+// The byte after the last one between these places that is no blank and no line end.
 fn trimmed_end(text: &[u8], start: usize, behind: usize) -> usize {
     let mut end = start;
     for index in start..behind {

@@ -1,4 +1,4 @@
--- Kinds of obligations by their names, COMPONENT.CLAUSE.number. What asks that something is defined has .wd or .chk behind the clause.
+-- Kinds of obligations by their names, COMPONENT.CLAUSE.number. What asks that something is defined has .wd or .chk after the clause.
 use Rattle.std.specs.Prelude.{ℕ, nat_eq, cond, List, [], ◌∷◌, count_by, codes}
 use Rattle.std.specs.List.{starts_with}
 use Rattle.bk_origins.specs.declared.concern.Concern.{Concern}
@@ -8,7 +8,7 @@ use Rattle.bk_origins.specs.declared.concern.Concern.TheVariants.{Initialisation
 abbrev pub dots : List ℕ → ℕ
 dots name = count_by (λ c. nat_eq c 46) name
 
--- what stands behind the first one
+-- what stands after the first one
 abbrev pub behind_dot : List ℕ → List ℕ
 behind_dot [] = []
 behind_dot (c ∷ cs) = cond (nat_eq c 46) cs (behind_dot cs)

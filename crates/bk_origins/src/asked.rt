@@ -67,7 +67,7 @@ fn front_of(name: &[u8]) -> &[u8] {
     if end < name.len() { &name[..end] } else { name }
 }
 
-/// How many obligations behind this one have names with this front, up to the first that has not.
+/// How many obligations after this one have names with this front, up to the first that has not.
 pub(crate) fn count_behind(list: &[Obligation], index: usize, front: &[u8]) -> usize {
     let mut count = 0usize;
     for before in index..list.len() {

@@ -75,7 +75,7 @@ impl<'a> Site<'a> {
         }
     }
 
-    /// What stands in the names of its obligations behind the component.
+    /// What stands in the names of its obligations after the component.
     pub(crate) fn clause_name(&self, clause: Clause) -> Result<Vec<u8>, Memory> {
         let mut name = Vec::new(self.alloc);
         match clause {

@@ -36,7 +36,7 @@ fn dots(name: &[u8]) -> usize
     name.iter().filter(|byte| **byte == b'.').count()
 }
 
-// What stands behind the first one.
+// What stands after the first one.
 fn behind_dot(name: &[u8]) -> &[u8]
     ensures { result.now ≡ behind_dot name.now }
 {

@@ -107,7 +107,7 @@ pub(crate) fn condition_leaves(
     Ok(leaves)
 }
 
-/// The parts of the box of a substitution, of what is asked behind it.
+/// The parts of the box of a substitution, of what is asked after it.
 pub(crate) fn box_leaves(alloc: Global, sub: &Sub, behind: &[Leaf]) -> Result<Vec<Leaf>, Memory> {
     match &*sub.node {
         SubNode::Skip | SubNode::Assign(_) => Ok(Vec::from_slice(alloc, behind)?),
@@ -166,7 +166,7 @@ pub(crate) fn diamond_leaves(
     }
 }
 
-/// The first parts, and the others behind them.
+/// The first parts, and the others after them.
 pub(crate) fn joined(mut first: Vec<Leaf>, second: Vec<Leaf>) -> Result<Vec<Leaf>, Memory> {
     first.extend_from_slice(&second)?;
     Ok(first)

@@ -15,12 +15,12 @@ begins_character c = nat_lt c 128 || not (nat_lt c 192)
 abbrev pub characters : List ℕ → ℕ
 characters text = count_by begins_character text
 
--- what stands behind the last line end, where this stands behind the one before
+-- what stands after the last line end, where this stands after the one before
 abbrev pub last_line_from : List ℕ → List ℕ → List ℕ
 last_line_from line [] = line
 last_line_from line (c ∷ cs) = cond (nat_eq c 10) (last_line_from cs cs) (last_line_from line cs)
 
--- what stands behind the last line end of a text
+-- what stands after the last line end of a text
 abbrev pub last_line : List ℕ → List ℕ
 last_line text = last_line_from text text
 

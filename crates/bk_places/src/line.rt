@@ -16,7 +16,7 @@ pub fn line_text(text: &[u8], line: usize) -> &[u8]
     line_behind(text, line - 1)
 }
 
-// The text of the line behind so many others; empty where there is none.
+// The text of the line after so many others; empty where there is none.
 fn line_behind(text: &[u8], others: usize) -> &[u8]
     ensures { result.now ≡ slice_index_or (lines text.now) others [] }
 {

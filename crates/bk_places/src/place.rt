@@ -10,7 +10,7 @@ pub struct Place {
     pub column: usize,
 }
 
-/// The line and the column of a byte, counted from 0. Past the text it is the place behind its end.
+/// The line and the column of a byte, counted from 0. Past the text it is the place after its end.
 pub fn place_of(text: &[u8], at: usize) -> Place
     ensures line { result.line ≡ meant.line_of text.now at }
     ensures column { result.column ≡ meant.column_of text.now at }
@@ -50,7 +50,7 @@ fn begins_character(byte: u8) -> bool
     byte < 0x80 || byte >= 0xc0
 }
 
-// What stands behind the last line end.
+// What stands after the last line end.
 fn last_line(text: &[u8]) -> &[u8]
     ensures { result.now ≡ meant.last_line text.now }
 {
@@ -61,7 +61,7 @@ fn last_line(text: &[u8]) -> &[u8]
     line
 }
 
-// What stands behind the last line end up to this byte, where the line before it begins there.
+// What stands after the last line end up to this byte, where the line before it begins there.
 fn line_with<'a>(text: &'a [u8], line: &'a [u8], index: usize) -> &'a [u8]
     requires { index < length text.now }
     ensures { result.now ≡ cond (nat_eq (slice_index text.now index) 10) (drop (index + 1) text.now) line.now }

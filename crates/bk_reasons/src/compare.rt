@@ -4,7 +4,7 @@ use crate::words::Words;
 use bk_form::{Form, View};
 use bk_io::Memory;
 
-/// Says where two formulas differ: the longest way down on which only one part differs at each node, and what stands behind it.
+/// Says where two formulas differ: the longest way down on which only one part differs at each node, and what stands after it.
 pub(crate) fn say_difference(
     words: &mut Words<'_>,
     there: &Form,

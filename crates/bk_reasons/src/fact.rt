@@ -6,7 +6,7 @@ use bk_io::Memory;
 use bk_lin::{Fact, Line};
 use std::alloc::Global;
 
-/// The facts that lines make behind given ones, up to the first line that makes none within 128 bits.
+/// The facts that lines make after given ones, up to the first line that makes none within 128 bits.
 pub(crate) fn made_facts(
     alloc: Global,
     given: Vec<Fact>,

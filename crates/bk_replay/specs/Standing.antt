@@ -11,7 +11,7 @@ use Rattle.bk_kernel.specs.declared.rule.Rule.{Rule}
 use Rattle.bk_kernel.specs.declared.replaying.Verdict.{Verdict}
 use Rattle.bk_kernel.specs.declared.replaying.Verdict.TheVariants.{BadStep, Extra}
 
--- these are the sequents that are left behind the first k rules
+-- these are the sequents that are left after the first k rules
 abbrev pub AreOpenAfter : Table → List Rule → Sequent → ℕ → List Sequent → Type 0
 AreOpenAfter table rules s k left = Leaves table (s ∷ []) (take k rules) left
 

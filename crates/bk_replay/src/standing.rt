@@ -1,4 +1,4 @@
-//! The open sequents behind rules.
+//! The open sequents after rules.
 
 ghost use Rattle.std.specs.Prelude.{◌≡◌, ◌<◌, ◌≤◌, ◌^◌, ◌+◌, ◌++◌, ◌∷◌, length, map, take, IfOk, OnOk};
 ghost use Rattle.bk_seq.specs.Sequents.{sequent_of, Types, IsWithin};
@@ -13,7 +13,7 @@ use bk_kernel::{Rule, StepFault, Verdict, step};
 use bk_seq::Sequent;
 use std::alloc::Global;
 
-/// How far rules go: the first `done` of them are steps one after another, and these sequents are open behind them, the first one
+/// How far rules go: the first `done` of them are steps one after another, and these sequents are open after them, the first one
 /// first.
 #[derive(Drop)]
 pub struct Standing {
@@ -53,7 +53,7 @@ pub fn furthest(
     Ok(whole)
 }
 
-/// What is open behind the first rules, where so many are steps; else behind as many as are.
+/// What is open after the first rules, where so many are steps; else after as many as are.
 pub fn open_after(
     alloc: Global,
     types: &VarTable,
@@ -97,7 +97,7 @@ pub fn verdict_of(standing: &Standing, rules: usize) -> Verdict
     }
 }
 
-// The verdict where the rule behind these is no step, or nothing is open before it.
+// The verdict where the rule after these is no step, or nothing is open before it.
 fn at_rule(done: u32, open: &[Sequent]) -> Verdict
     requires { done + 1 < 2 ^ 32 }
     ensures { result ≡ meant.at_rule done (length open.now) }

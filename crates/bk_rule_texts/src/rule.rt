@@ -4,8 +4,8 @@ ghost use Rattle.std.specs.Prelude.{◌≡◌, ◌-◌, ◌<◌, ◌≤◌, ℕ,
 
 use bk_form::Token;
 
-/// The numbers of the tokens of the rule whose first token starts at this byte: of the first, and of the one behind the last, which is
-/// the semicolon behind the rule or the `end` of its script.
+/// The numbers of the tokens of the rule whose first token starts at this byte: of the first, and of the one after the last, which is
+/// the semicolon after the rule or the `end` of its script.
 pub fn rule_tokens(text: &[u8], tokens: &[Token], at: usize) -> (usize, usize) {
     let mut first = tokens.len();
     let mut depth = 0usize;
@@ -32,7 +32,7 @@ pub fn rule_text<'a>(text: &'a [u8], tokens: &[Token], at: usize) -> &'a [u8]
     front(behind_byte(text, at), end.saturating_sub(at))
 }
 
-// The byte behind the token before the one with this number; 0 where there is none.
+// The byte after the token before the one with this number; 0 where there is none.
 fn end_before(tokens: &[Token], number: usize) -> usize {
     let Some(last) = number.checked_sub(1) else {
         return 0;
@@ -61,7 +61,7 @@ fn front(text: &[u8], count: usize) -> &[u8]
     }
 }
 
-// How many brackets are open behind a token.
+// How many brackets are open after a token.
 fn depth_behind(depth: usize, written: &[u8]) -> usize {
     match written {
         b"(" | b"[" | b"{" => depth.saturating_add(1),
