@@ -48,7 +48,7 @@ none n = omega arith
 flat : (n : ℕ) → 0 ≤ n
 flat n = omega arith
 
--- members whose values are flat, put one behind another
+-- members whose values are flat, put one after another
 one-flat : (k : List ℕ) (d : Data) (ms : Members) (n : ℕ) → depth d ≡ 0 → members_depth ms ≤ n → members_depth (put k d ms) ≤ n
 one-flat k d ms n e h = put-within k d ms n (omega arith) h
 
@@ -109,7 +109,7 @@ sums-within sums =
     one-more (put (codes "open") (count_data sums.left) (proved-member sums)) 0 (one-flat (codes "open") (count_data sums.left) (proved-member sums) 0 refl (one-flat (codes "proved") (count_data sums.proved) (obvious-member sums) 0 refl
     (one-flat (codes "obvious") (count_data sums.obvious) (all-member sums) 0 refl (one-flat (codes "obligations") (count_data sums.obligations) no_members 0 refl (none 0)))))
 
--- sums one behind another
+-- sums one after another
 one-sums : (k : List ℕ) (sums : Sums) (ms : Members) → members_depth ms ≤ 1 → members_depth (put k (sums_data sums) ms) ≤ 1
 one-sums k sums ms h = put-within k (sums_data sums) ms 1 (sums-within sums) h
 

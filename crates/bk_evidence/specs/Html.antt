@@ -79,7 +79,7 @@ script_part (Some script) = rules_part script
 abbrev pub answer_part : Item → List ℕ
 answer_part item = state_mark item.state ++ state_text item.state ++ script_part item.script ++ codes "</td></tr>\n"
 
--- the row of an obligation, and behind it what is open of it
+-- the row of an obligation, and after it what is open of it
 abbrev pub row_part : Item → List ℕ
 row_part item = question_part item ++ place_part item ++ answer_part item ++ shown_part item.shown
 

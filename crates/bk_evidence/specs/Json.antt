@@ -1,4 +1,4 @@
--- The data that a report is written as in JSON (RFC 8259). Members are put one behind another; JSON has them in the order of their names.
+-- The data that a report is written as in JSON (RFC 8259). Members are put one after another; JSON has them in the order of their names.
 use Rattle.std.specs.Prelude.{ℕ, Bool, false, cond, ◌&&◌, List, [], ◌∷◌, map, Option, Some, None, codes, string_bytes}
 use Rattle.std.specs.List.{flat_map}
 use Rattle.std.specs.Str.Lossy.{utf8_lossy}

@@ -199,7 +199,7 @@ pub(crate) fn write_state(text: &mut Vec<u8>, state: State) -> Result<(), AllocE
     }
 }
 
-/// Writes a count behind a word.
+/// Writes a count after a word.
 pub(crate) fn write_count(text: &mut Vec<u8>, before: &[u8], count: usize) -> Result<(), AllocError>
     ensures { OnOk result (text.new.items ≡ text.old.items ++ (before.now ++ decimal count)) }
 {

@@ -283,7 +283,7 @@ fn write_claims(text: &mut Vec<u8>, claims: Claims) -> Result<(), AllocError>
     Ok(())
 }
 
-// Words behind a name.
+// Words after a name.
 fn write_words(text: &mut Vec<u8>, name: &[u8], words: &str) -> Result<(), AllocError>
     ensures { OnOk result (text.new.items ≡ text.old.items ++ (name.now ++ words.now)) }
 {

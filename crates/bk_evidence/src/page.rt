@@ -4,7 +4,7 @@
 pub(crate) const HEAD: &str =
     "<!DOCTYPE html>\n<html lang=\"en\">\n<head>\n<meta charset=\"utf-8\">\n<meta name=\"viewport\" content=\"width=device-width, initial-scale=1\">\n<title>Status of ";
 
-/// Behind the title: how the page is laid out, on a screen and on paper.
+/// After the title: how the page is laid out, on a screen and on paper.
 pub(crate) const STYLE: &str = "</title>\n<style>
 body { font: 16px/1.45 system-ui, sans-serif; margin: 2rem auto; max-width: 72rem; padding: 0 1rem; color: #1a1a1a; background: #fff; }
 h1 { font-size: 1.6rem; margin-bottom: 0.2rem; }

@@ -93,7 +93,7 @@ fn are_arguments(text: &[u8], list: &[Token], last: usize) -> bool {
     false
 }
 
-// The number of the token behind the argument that begins at a token, if one does.
+// The number of the token after the argument that begins at a token, if one does.
 fn behind_argument(text: &[u8], list: &[Token], place: usize) -> Option<usize> {
     let next = place.saturating_add(1);
     if is_word_argument(text, list, place) {
@@ -243,7 +243,7 @@ fn say_argument(
     say(words, "\n")
 }
 
-// The number of the token at which the argument behind this one begins.
+// The number of the token at which the argument after this one begins.
 fn next_argument(text: &[u8], list: &[Token], place: usize) -> usize {
     match behind_argument(text, list, place) {
         Some(behind) => behind.saturating_add(1),

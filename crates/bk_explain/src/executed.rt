@@ -56,7 +56,7 @@ fn say_code(words: &mut Vec<u8>, text: &[u8], list: &[Token], index: usize) -> R
     )
 }
 
-// Whether a token is an input or an output of an operation: behind it `<--` or `=` comes before any statement.
+// Whether a token is an input or an output of an operation: after it `<--` or `=` comes before any statement.
 fn is_in_header(text: &[u8], list: &[Token], index: usize) -> bool {
     for place in index..list.len() {
         let word = word_at(text, list, place.saturating_add(1));
@@ -116,7 +116,7 @@ fn begins_statement(text: &[u8], list: &[Token], index: usize) -> bool {
     ) || (before == b"=".as_slice() && starts_body(text, list, index))
 }
 
-// Whether a body begins at a token behind `=`: what stands there is written.
+// Whether a body begins at a token after `=`: what stands there is written.
 fn starts_body(text: &[u8], list: &[Token], index: usize) -> bool {
     for place in index..list.len() {
         let word = word_at(text, list, place.saturating_add(1));

@@ -119,7 +119,7 @@ fn is_declared(text: &[u8], list: &[Token], index: usize) -> bool {
         )
 }
 
-// Whether an operation is named by a token: `=` stands behind it, or behind what is given to it.
+// Whether an operation is named by a token: `=` stands after it, or after what is given to it.
 fn names_operation(text: &[u8], list: &[Token], index: usize) -> bool {
     if !is_one_of(word_before(text, list, index), &["OPERATIONS", ";", "<--"]) {
         return false;
@@ -132,7 +132,7 @@ fn names_operation(text: &[u8], list: &[Token], index: usize) -> bool {
     }
 }
 
-// Whether `=` stands behind the first parenthesis that closes behind a token.
+// Whether `=` stands after the first parenthesis that closes after a token.
 fn closes_header(text: &[u8], list: &[Token], open: usize) -> bool {
     for place in open..list.len() {
         if word_at(text, list, place) == b")".as_slice() {
@@ -237,7 +237,7 @@ fn other_names<'a>(
     Ok(names)
 }
 
-// Whether the name of a component stands behind a word.
+// Whether the name of a component stands after a word.
 fn names_component(word: &[u8]) -> bool {
     matches!(
         word,
@@ -334,7 +334,7 @@ fn place_in_parentheses(text: &[u8], list: &[Token], open: usize) -> Option<Type
     None
 }
 
-// Of names behind a word or a sign.
+// Of names after a word or a sign.
 fn place_behind(word: &[u8]) -> Option<TypePlace> {
     match word {
         b"!" => Some(TypePlace::Conjunct(" before the => of the quantifier\n")),
@@ -469,7 +469,7 @@ fn closes(word: &[u8]) -> bool {
     is_one_of(word, &[")", "}", "]"])
 }
 
-// Whether another formula begins behind a word.
+// Whether another formula begins after a word.
 fn parts_formulas(word: &[u8]) -> bool {
     is_one_of(
         word,
@@ -492,7 +492,7 @@ fn behind_parentheses(text: &[u8], list: &[Token], index: usize) -> (usize, usiz
     (open, 0)
 }
 
-// Whether a predicate is asked behind a token and so many parentheses.
+// Whether a predicate is asked after a token and so many parentheses.
 fn asks_predicate(text: &[u8], list: &[Token], open: usize, before: usize) -> bool {
     let behind = before.saturating_add(open).saturating_add(1);
     if is_one_of(word_at(text, list, behind), &["not", "!", "#"]) {
@@ -507,7 +507,7 @@ fn asks_predicate(text: &[u8], list: &[Token], open: usize, before: usize) -> bo
     }
 }
 
-// Whether predicates stand behind a word.
+// Whether predicates stand after a word.
 fn joins_predicates(word: &[u8]) -> bool {
     is_one_of(
         word,
@@ -550,7 +550,7 @@ fn encloses<'a>(text: &'a [u8], list: &[Token], index: usize) -> &'a [u8] {
     &[]
 }
 
-// Whether an operator on values stands behind the parenthesis that is open at a token.
+// Whether an operator on values stands after the parenthesis that is open at a token.
 fn is_operand(text: &[u8], list: &[Token], index: usize) -> bool {
     let mut open = 0usize;
     for place in index..list.len() {

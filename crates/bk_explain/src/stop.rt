@@ -13,7 +13,7 @@ use bk_io::{Memory, Text};
 use bk_verbs::Stop;
 use std::alloc::Global;
 
-/// What a stop means, in words behind the line that tells it. The sources are the files that were read.
+/// What a stop means, in words after the line that tells it. The sources are the files that were read.
 pub fn explanation(alloc: Global, stop: &Stop, sources: &[Source<'_>]) -> Result<Vec<u8>, Memory> {
     let mut words = Vec::new(alloc);
     match stop {

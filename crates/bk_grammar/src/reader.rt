@@ -103,7 +103,7 @@ fn first_set(alloc: Global, rows: &[Row], start: &[u8]) -> Result<Vec<Waiting>, 
     Ok(first)
 }
 
-// The rows that wait behind a token.
+// The rows that wait after a token.
 fn behind(
     alloc: Global,
     rows: &[Row],

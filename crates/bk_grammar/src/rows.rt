@@ -59,7 +59,7 @@ pub const COMPONENT: &str = "<component>";
 /// A file of scripts.
 pub const PROOF_FILE: &str = "<proof-file>";
 
-/// A row: the part is written as these, one behind another.
+/// A row: the part is written as these, one after another.
 #[derive(Drop)]
 pub struct Row {
     pub part: &'static [u8],
@@ -104,7 +104,7 @@ fn row_of(alloc: Global, line: &'static [u8]) -> Result<Row, Memory> {
     Ok(Row { part, symbols })
 }
 
-// What stands before the first blank, and what behind it.
+// What stands before the first blank, and what after it.
 fn first_word(text: &[u8]) -> (&[u8], &[u8]) {
     match text.iter().position(|byte| *byte == b' ') {
         Some(end) => (&text[..end], &text[end + 1..]),
@@ -138,7 +138,7 @@ fn symbol_of(word: &'static [u8]) -> Symbol {
     Symbol::Part(word)
 }
 
-// Whether a word is no token: a small letter stands behind its `<`.
+// Whether a word is no token: a small letter stands after its `<`.
 fn is_in_brackets(word: &[u8]) -> bool {
     match word {
         [b'<', first, ..] => first.is_ascii_lowercase(),

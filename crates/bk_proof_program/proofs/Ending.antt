@@ -48,12 +48,12 @@ outside_unsaid stops.ReadFault o s = s
 outside_unsaid stops.WriteFault o s = s
 outside_unsaid stops.Memory o s = s
 
--- two texts one behind the other
+-- two texts one after the other
 pub written_twice : (old : Option (List ℕ)) (one two : List ℕ) → written_with (written_with old one) two ≡ written_with old (one ++ two)
 written_twice None one two = refl
 written_twice (Some old) one two = ap Some (append_assoc old one two)
 
--- the line of a stop, and words behind it
+-- the line of a stop, and words after it
 stop_told : (stop : Stop) (old middle new : Option (List ℕ)) (status : Status) (words : List ℕ) → Reports stop status old middle → new ≡ written_with middle words → IsCutShort status ⊎ TellsStop stop old new status
 stop_told stop old middle new status words (inl h) e = inr (record {
   words = words;
@@ -62,7 +62,7 @@ stop_told stop old middle new status words (inl h) e = inr (record {
 })
 stop_told stop old middle new status words (inr h) e = inl h.0
 
--- words behind the line of a stop
+-- words after the line of a stop
 pub told_behind : (stop : Stop) (old middle new : Option (List ℕ)) (status result : Status) (words : List ℕ) → Reports stop status old middle → IsCutShort result ⊎ ((result ≡ status) × (new ≡ written_with middle words)) → IsCutShort result ⊎ TellsStop stop old new result
 told_behind stop old middle new status result words h (inl k) = inl k
 told_behind stop old middle new status result words h (inr k) =

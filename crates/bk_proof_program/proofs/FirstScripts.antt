@@ -17,7 +17,7 @@ module _ (name : List ℕ) where
   behind true s one other e h = e
   behind false s one other e h = h e
 
-  -- what is found behind a script that is not the one
+  -- what is found after a script that is not the one
   passing : (b : Bool) (s : RawScript) (here there found : Option RawScript) → cond b (Some s) here ≡ None → (here ≡ None → found ≡ there) → found ≡ cond b (Some s) there
   passing true s here there found m f = absurd (is_there s m)
   passing false s here there found m f = f m

@@ -11,7 +11,7 @@ before-append : (b : Bool) (name : List ℕ) (all some more : List (List ℕ)) �
 before-append true name all some more h = h
 before-append false name all some more h = ap (λ names. name ∷ names) h
 
--- of two lists one behind the other
+-- of two lists one after the other
 pub strays_append : (list : List Obligation) (ones others : List RawScript) → stray_names list (ones ++ others) ≡ stray_names list ones ++ stray_names list others
 strays_append list [] others = refl
 strays_append list (s ∷ ss) others =

@@ -18,7 +18,7 @@ use Rattle.bk_verbs.specs.declared.status.Status.TheVariants.{Done, Usage, Unpro
 abbrev pub status_by : Bool → Status
 status_by is_open = cond is_open Unproved Done
 
--- of the obligation with this name the text shows what is open behind the rules that are asked for of the script with its name; words for
+-- of the obligation with this name the text shows what is open after the rules that are asked for of the script with its name; words for
 -- no obligation are wrong
 abbrev pub ShowsNamed : Development → List RawScript → (name : List ℕ) → Option ℕ → Option (List ℕ × Sequent) → List ℕ → Status → Type 0
 ShowsNamed dev scripts name at None text status = status ≡ Usage

@@ -121,7 +121,7 @@ fn put_lines(text: &mut Vec<u8>, words: &str, indent: &str) -> Result<(), Memory
     Ok(())
 }
 
-// What stands before the first blank, and what behind it.
+// What stands before the first blank, and what after it.
 fn first_word(text: &[u8]) -> (&[u8], &[u8]) {
     match text.iter().position(|byte| *byte == b' ') {
         Some(end) => (&text[..end], &text[end + 1..]),

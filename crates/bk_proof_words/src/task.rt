@@ -3,7 +3,7 @@
 /// What the program does, a variant a verb. Files are named as the words name them.
 #[derive(Clone, Copy)]
 pub enum Task<'a> {
-    /// Behind so many rules, or behind all.
+    /// After so many rules, or after all.
     Goal {
         project: &'a str,
         name: &'a str,

@@ -9,7 +9,7 @@ ghost use Rattle.bk_proof_words.specs.declared.task.Task.{Task};
 use crate::task::{ReportForm, Task};
 use itoa::Buffer;
 
-/// The options behind a verb: the text after `--at`, and which of the others are there.
+/// The options after a verb: the text after `--at`, and which of the others are there.
 #[derive(Clone, Copy)]
 pub(crate) struct Options<'a> {
     pub(crate) at: Option<&'a str>,

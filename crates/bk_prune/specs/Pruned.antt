@@ -60,7 +60,7 @@ pub record ProvesOne (dev : Development) (list : List Obligation) (script : RawS
   pub derives : Derives table rules (sequent_of obligation.sequent)
 
 -- ---- scripts that need each of their rules
--- without one rule, the one behind the first k, those that the script stands for derive its sequent
+-- without one rule, the one after the first k, those that the script stands for derive its sequent
 pub record ProvesWithout (dev : Development) (list : List Obligation) (script : RawScript) (k : ℕ) : Type 0 where
   pub obligation : Obligation
   pub is_for : obligation_for list script ≡ Some obligation

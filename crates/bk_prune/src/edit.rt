@@ -44,7 +44,7 @@ pub(crate) fn edits(
     Ok(Some(edits))
 }
 
-// Behind which number of rules none stays.
+// After which number of rules none stays.
 fn tail_of(script: &RawScript, numberings: &[Option<Numbers>]) -> usize {
     let mut tail = 0;
     for index in 0..script.rules.len() {
@@ -55,7 +55,7 @@ fn tail_of(script: &RawScript, numberings: &[Option<Numbers>]) -> usize {
     tail
 }
 
-// A rule goes, and the semicolon behind it.
+// A rule goes, and the semicolon after it.
 fn cut(tokens: &[Token], range: (usize, usize)) -> Edit {
     let (first, behind) = range;
     Edit {
@@ -140,7 +140,7 @@ fn renumber(
     Ok(true)
 }
 
-// How many numbers of hypotheses stand behind the word.
+// How many numbers of hypotheses stand after the word.
 fn own_numbers(word: &RuleWord) -> usize {
     match word {
         RuleWord::Absurd => 2,
@@ -180,7 +180,7 @@ fn renumber_one(
     Ok(true)
 }
 
-// The numbers behind `lin`, with commas between.
+// The numbers after `lin`, with commas between.
 fn renumber_listed(
     edits: &mut Vec<Edit>,
     tokens: &[Token],

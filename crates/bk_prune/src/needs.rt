@@ -137,7 +137,7 @@ fn total(rules: &[Rule]) -> usize
     rules.len()
 }
 
-// Whether rules derive a sequent without the one behind so many. They are the same again.
+// Whether rules derive a sequent without the one after so many. They are the same again.
 fn close_without(
     alloc: Global,
     table: &VarTable,

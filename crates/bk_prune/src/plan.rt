@@ -31,7 +31,7 @@ pub(crate) fn fates(
     drops: bool,
 ) -> Result<Vec<Fate>, Memory> {
     let mut fates = vec![in alloc; Fate::Stays; rules.len()]?;
-    // the proofs of what comes of the rules behind; that of the first sequent stands last
+    // the proofs of what comes of the rules after; that of the first sequent stands last
     let mut proofs = Vec::new(alloc);
     for behind in 0..rules.len() {
         let index = rules.len() - 1 - behind;

@@ -21,7 +21,7 @@ pub(crate) fn uses(alloc: Global, rule: &Rule) -> Result<Vec<u32>, Memory> {
     Ok(used)
 }
 
-// The number that stands behind the word of a rule.
+// The number that stands after the word of a rule.
 fn own_number(rule: &Rule) -> Option<u32> {
     match rule {
         Rule::Hyp(number)

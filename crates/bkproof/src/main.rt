@@ -20,7 +20,7 @@ fn main(rt: HostRuntime) -> ExitCode {
     exit_code(rt.alloc(), given_words(&rt), &mut shelf, &mut out)
 }
 
-// The words behind the program's name.
+// The words after the program's name.
 fn given_words(rt: &HostRuntime) -> io::Result<Vec<String>> {
     let words = env::args(rt)?.skip(1).collect(rt.alloc())?;
     Ok(words)
