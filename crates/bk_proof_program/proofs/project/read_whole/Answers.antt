@@ -37,3 +37,9 @@ returns-in_err-list-clause-reading g c =
 
 pub returns-clause-texts : goal.returns-clause-texts
 returns-clause-texts g c files told = c.in_ok-files.ensures.told files (c.read_project.ensures.files ∙ told)
+
+pub returns-clause-listed : goal.returns-clause-listed
+returns-clause-listed g c = c.in_ok-list.ensures.listed
+
+pub returns-clause-ready : goal.returns-clause-ready
+returns-clause-ready g c = c.in_ok-list.ensures.ready
