@@ -48,11 +48,11 @@ returns-clause-told g c files told =
       development = whole.project.development;
       scripts = whole.project.scripts;
       reads = c.in_ok-whole.ensures.told files told;
-      shows = one_named whole.project.development whole.project.scripts c.args.name.now c.args.at _ c.in_ok-text.text.items (named_sequent c.in-Some.obligation.now) c.status_of.result listed (
+      shows = one_named whole.project.development whole.project.scripts c.args.name.now c.args.at _ c.in_ok-shown.shown.text.items (named_sequent c.in-Some.obligation.now) c.status_of.result listed (
         c.in_ok-found.field-0,
-        c.in_ok-text.is_open,
+        c.in_ok-shown.shown.is_open,
         c.in_ok-found.ensures.named ∙ ap (script_named whole.project.scripts) c.as_bytes-wanted.ensures.value,
-        c.in_ok-text.ensures,
+        c.in_ok-shown.ensures,
         c.status_of.ensures.value,
       );
     }
