@@ -1,5 +1,6 @@
 -- What stops bkit at a project.
-use Rattle.std.proofs.Common.{◌⊎◌, inl, inr, ℕ, List, true}
+use Rattle.std.proofs.Common.{◌⊎◌, inl, inr, ℕ, List, true, Result, Ok, Err}
+use Rattle.std.specs.Prelude.{IfOk, IsErrAnd}
 use Rattle.bk_cli.specs.Tasks.{status_task}
 use Rattle.bk_dev.specs.Development.{Development}
 use Rattle.bk_io.specs.Files.{Files}
@@ -18,3 +19,8 @@ pub at_limits : (files : Files) (project : List ℕ) (dev : Development) (script
     IsOutside stop ⊎ StopsPastLimits project dev stop → IsOutside stop ⊎ StopsTask files (status_task project) stop
 at_limits files project dev scripts stop reads (inl o) = inl o
 at_limits files project dev scripts stop reads (inr h) = inr (inr (dev, scripts, reads, h))
+
+-- an error has no value
+pub no_value : {T : Type 0} (r : Result T Stop) (P : Stop → Type 0) (Q : T → Type 0) → IsErrAnd r P → IfOk r Q
+no_value (Ok t) P Q h = absurd h
+no_value (Err s) P Q h = tt

@@ -4,3 +4,4 @@ pub mod Finding
 pub mod Causes
 pub mod Ending
 pub mod Strays
+pub mod Named

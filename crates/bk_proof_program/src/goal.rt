@@ -14,7 +14,7 @@ ghost use Rattle.bk_proof_program.specs.Said.{IsToldAnswer};
 
 use crate::answer::Answer;
 use crate::project::{found, notes_of, obligation_named, read_whole};
-use bk_goal::{Asked, GoalText, goal_text};
+use bk_goal::{Asked, goal_text};
 use bk_io::{Memory, Shelf};
 use bk_po::Obligation;
 use bk_reasons::nearest;
@@ -52,8 +52,8 @@ pub(crate) fn goal_answer<H: Shelf>(
         notes: &notes,
         at,
     };
-    let GoalText { text, is_open } = goal_text(alloc, asked)?;
-    Ok(Answer::Whole(text, status_of(is_open)))
+    let shown = goal_text(alloc, asked)?;
+    Ok(Answer::Whole(shown.text, status_of(shown.is_open)))
 }
 
 fn status_of(is_open: bool) -> Status

@@ -19,6 +19,7 @@ ghost use Rattle.bk_proof_program.specs.Told.{IsMade, WritesReport, stray_names}
 use crate::answer::Answer;
 use crate::list::{all_items, status_of, strays};
 use crate::project::{NamedText, Whole, found, notes_of, obligation_named, read_whole};
+use bk_dev::{Development, Level};
 use bk_evidence::{File, Report, claims_of_reports, html_page, inputs, json_text, report_text};
 use bk_goal::{Asked, Note, goal_text};
 use bk_io::{Memory, Shelf, Text};
@@ -93,7 +94,7 @@ fn report_of(alloc: Global, project: &str, whole: &Whole, rows: &[Row]) -> Resul
         version: VERSION,
         toolchain: TOOLCHAIN,
         claims: claims_of_reports(),
-        machine: machine_name(alloc, whole)?,
+        machine: machine_name(alloc, &whole.project.development)?,
         inputs: inputs(alloc, &files)?,
         items: all_items(alloc, whole, rows, &shown)?,
         strays: strays(alloc, whole)?,
@@ -152,10 +153,18 @@ fn open_text(alloc: Global, whole: &Whole, notes: &[Note], name: &[u8]) -> Resul
     Ok(Text::from_bytes(Vec::new(alloc)))
 }
 
-fn machine_name(alloc: Global, whole: &Whole) -> Result<Text, Memory>
-    ensures { IfOk result (λ name. name ≡ meant.machine_name whole.now.project.development.levels) }
+fn machine_name(alloc: Global, dev: &Development) -> Result<Text, Memory>
+    ensures { IfOk result (λ name. name ≡ meant.machine_name dev.now.levels) }
 {
-    match whole.project.development.levels.first() {
+    let name = first_name(alloc, &dev.levels)?;
+    Ok(name)
+}
+
+// The name of the first level.
+fn first_name(alloc: Global, levels: &[Level]) -> Result<Text, Memory>
+    ensures { IfOk result (λ name. name ≡ meant.machine_name levels.now) }
+{
+    match levels.first() {
         Some(level) => level.name.copy(alloc),
         None => Ok(Text::from_bytes(Vec::new(alloc))),
     }

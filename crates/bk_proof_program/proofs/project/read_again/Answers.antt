@@ -27,11 +27,10 @@ returns-clause-told g c files told = record {
 
 pub returns-in_err-lines-clause-cause : goal.returns-in_err-lines-clause-cause
 returns-in_err-lines-clause-cause g c =
-    widen c.from_residual-in_err-lines.result
-    (λ stop. (files : Files) → IsTold files c.args.name.now c.deref.result.now → IsOutside stop ⊎ StopsAtProject true files c.args.name.now stop)
+    handed_on c.from_residual-in_err-lines.result c.in_err-lines.field-0.0
     (λ stop. (files : Files) → g.H.Shelf.files c.args.shelf.now ≡ Some files → IsOutside stop ⊎ StopsAtProject true files c.args.name.now stop)
-    (search rules)
-    (λ stop h files told. h files (subst (IsTold files c.args.name.now) (sym c.deref.ensures.value) (c.in_ok-text.ensures.told files told)))
+    c.from_residual-in_err-lines.ensures.1
+    (λ files told. c.in_err-lines.ensures.cause files (subst (IsTold files c.args.name.now) (sym c.deref.ensures.value) (c.in_ok-text.ensures.told files told)))
 
 pub returns-in_err-components-clause-cause : goal.returns-in_err-components-clause-cause
 returns-in_err-components-clause-cause g c =

@@ -1,10 +1,10 @@
-use Rattle.std.proofs.Common.{◌≡◌, ◌∙◌, ℕ, List, Some, None, find, option_map, refl, sym, subst, ap}
+use Rattle.std.proofs.Common.{◌≡◌, ◌∙◌, ℕ, List, Some, None, find, option_map, sym, subst, ap}
 use Rattle.std.specs.Str.{bytes_eq}
 use Rattle.bk_verbs.specs.Project.{IsTold, proof_files}
 use Rattle.bk_prune.specs.Pruned.{IsPrunedFile, CountsLeft, IsReady}
-use Rattle.bk_proof_program.specs.Prunes.{IsPrunedIfNamed}
 use Rattle.bk_proof_program.specs.declared.project.NamedText.{NamedText}
 use Rattle.bk_proof_program.proofs.Finding.{IfFound, find_map, found_told}
+use Rattle.bk_proof_program.proofs.Named.{no_file, one_file}
 use Rattle.bk_proof_program.proofs.prune.prune_answer.Goals as goal
 
 pub prune_file-requires : goal.prune_file-requires
@@ -26,7 +26,7 @@ returns-in_default-clause-told g c files told =
       told = texts.told;
       named = texts.named;
       lines = texts.lines;
-      pruned = subst (λ o. IsPrunedIfNamed files whole.project.development c.args.file.now o _ _) no refl;
+      pruned = no_file files whole.project.development c.args.file.now _ _ no;
     }
 
 pub returns-clause-told : goal.returns-clause-told
@@ -46,10 +46,10 @@ returns-clause-told g c files told =
       told = texts.told;
       named = texts.named;
       lines = texts.lines;
-      pruned = subst (λ o. IsPrunedIfNamed files whole.project.development c.args.file.now o _ _) listed (record {
+      pruned = one_file files whole.project.development c.args.file.now _ c.in_ok-pruned.pruned.text.items c.in-Some.proofs.now.name c.status_of.result listed (record {
         old = c.in-Some.proofs.now.text.items;
         told = one;
-        pruned = subst (λ t. IsPrunedFile whole.project.development t _) c.deref-3.ensures.value c.in_ok-pruned.ensures.kept;
+        pruned = subst (λ t. IsPrunedFile whole.project.development t c.in_ok-pruned.pruned.text.items) c.deref-3.ensures.value c.in_ok-pruned.ensures.kept;
         list = whole.list.items;
         listed = c.in_ok-whole.ensures.listed;
         left = c.in_ok-pruned.pruned.left;

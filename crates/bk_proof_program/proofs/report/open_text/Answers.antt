@@ -13,3 +13,9 @@ goal_text-requires-clause-replayable c =
     let here : Some c.in-Some.obligation.now ≡ find (λ (o : Obligation). bytes_eq c.args.name.now o.name) whole.list.items =
     c.in-Some.ensures ∙ (λ i. find (λ (o : Obligation). bytes_eq c.args.name.now o.name) (c.deref.ensures.value i)) in
     subst (IfFound (λ (o : Obligation). IsReplayable whole.table (named_sequent o).1)) (sym here) (found_each (λ (o : List ℕ × Sequent). IsReplayable whole.table o.1) named_sequent (λ (o : Obligation). bytes_eq c.args.name.now o.name) whole.list.items c.requires.replayable)
+
+pub goal_text-requires-clause-table : goal.goal_text-requires-clause-table
+goal_text-requires-clause-table c = c.requires.table_is
+
+pub goal_text-requires-clause-short : goal.goal_text-requires-clause-short
+goal_text-requires-clause-short c = c.in_ok-found.ensures.short

@@ -47,3 +47,6 @@ returns-clause-told g c files told =
 pub returns-in_err-table-clause-reading : goal.returns-in_err-table-clause-reading
 returns-in_err-table-clause-reading g c =
     handed_on c.from_residual-in_err-table.result c.in_err-table.field-0.0 IsOfReading c.from_residual-in_err-table.ensures.1 (checks_read c.in_err-table.field-0.0 c.in_err-table.ensures.checks)
+
+pub written-requires : goal.written-requires
+written-requires g c = c.in_ok-whole.ensures.ready

@@ -9,3 +9,6 @@ returns-clause-inputs c =
 
 pub returns-clause-made : goal.returns-clause-made
 returns-clause-made c = record { version = refl; toolchain = refl; stated = c.claims_of_reports.ensures; machine = c.in_ok-machine_name.ensures }
+
+pub shown_texts-requires : goal.shown_texts-requires
+shown_texts-requires c = c.requires

@@ -1,9 +1,0 @@
-use Rattle.std.proofs.Common.{◌∙◌, List, [], option_map, ap}
-use Rattle.std.specs.Prelude.{slice_get, unwrap_or}
-use Rattle.std.proofs.lemmas.Result.{IfOk-weaker}
-use Rattle.bk_dev.specs.Development.{Level}
-use Rattle.bk_proof_program.proofs.report.machine_name.Goals as goal
-
-pub returns-in-Some : goal.returns-in-Some
-returns-in-Some c =
-    IfOk-weaker c.copy.result _ _ (λ name e. e ∙ ap (λ o. unwrap_or (option_map (λ (level : Level). level.name) o) []) (c.in-Some.ensures.value ∙ ap (λ (levels : List Level). slice_get levels 0) c.deref.ensures.value)) c.copy.ensures
