@@ -100,7 +100,7 @@ fn bad_line_words(given: usize, lines: &[Line], number: usize) -> &'static [u8] 
 
 // Whether one of so many facts has this number.
 fn is_one_of(number: u32, count: usize) -> bool {
-    number > 0 && number as usize <= count
+    number > 0 && count >= number as usize
 }
 
 // What is wrong with the line of this number, from 1, that has a number below its least one.
