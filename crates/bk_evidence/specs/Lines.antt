@@ -15,7 +15,7 @@ use Rattle.bk_origins.specs.declared.concern.Concern.{Concern}
 use Rattle.bk_origins.specs.declared.concern.Concern.TheVariants.{Initialisation, Operation, Assertion, Values, Definedness, Other}
 
 -- ---- obligations
--- `T.inc.1  invariant conjunct 1 is kept by inc  `: the name, and what is asked
+-- `T.inc.1  invariant conjunct 1 is preserved by inc  `: the name, and what is asked
 abbrev pub question_text : Item → List ℕ
 question_text item = item.name ++ codes "  " ++ item.words ++ codes "  "
 

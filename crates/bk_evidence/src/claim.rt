@@ -22,10 +22,10 @@ pub fn claims_of_reports() -> Claims
 }
 
 const PROVED: &str =
-    "An obligation is obvious or proved where the kernel of proof, whose soundness is proved, accepts it. Where all are, the machine keeps its invariant, each component below does what the one above allows, and what is stated is defined: that is the clause `correct` of the status table. The code of the implementation then follows the machine in each legal session: the clauses `run` and `legal` of bkit.";
+    "An obligation is obvious or proved where the kernel of proof, whose soundness is proved, accepts it. Where all are, the machine preserves its invariant, each component below refines the one above, and what is stated is well-defined: that is the clause `correct` of the status table. The code of the implementation then follows the machine in each legal session: the clauses `run` and `legal` of bkit.";
 
 const TRUSTED: &str =
-    "The toolchain that proved the program, the C library, the operating system and the processor.";
+    "The toolchain that proved and built the program, LLVM included, the C library, the operating system and the processor.";
 
 const NOT_CLAIMED: &str =
-    "Anything of calls past a precondition, of fuel that runs out, and of files that change while they are read. That the machine says what was meant is for its readers to judge.";
+    "Anything about calls past a false precondition, about fuel that runs out, and about files that change while they are read. Whether the machine says what was meant is for its readers to judge.";

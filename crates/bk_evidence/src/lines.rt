@@ -83,7 +83,7 @@ fn write_item(text: &mut Vec<u8>, item: &Item) -> Result<(), AllocError>
     Ok(())
 }
 
-// `T.inc.1  invariant conjunct 1 is kept by inc  `.
+// `T.inc.1  invariant conjunct 1 is preserved by inc  `.
 fn write_question(text: &mut Vec<u8>, item: &Item) -> Result<(), AllocError>
     ensures { OnOk result (text.new.items ≡ text.old.items ++ texts.question_text item.now) }
 {

@@ -180,7 +180,7 @@ fn say_unknown(
     }
     if let Some(index) = nearest(alloc, name, &names)? {
         if let Some(near) = names.get(index) {
-            say(words, "; near it is ")?;
+            say(words, "; the nearest name is ")?;
             say_quoted(words, *near)?;
         }
     }
@@ -236,7 +236,7 @@ fn say_argument(
         }
         place = next_argument(text, list, place);
     }
-    say(words, "a number is past the range: numbers go from -")?;
+    say(words, "a number is out of range: numbers go from -")?;
     say_integer(words, image.int_max())?;
     say(words, " to ")?;
     say_integer(words, image.int_max())?;
@@ -287,15 +287,15 @@ fn say_kind(
     say_quoted(words, word_at(text, list, place))?;
     say(words, ", and ")?;
     match kind {
-        CellKind::Integer => say(words, "a number is wanted\n"),
-        CellKind::Bool => say(words, "TRUE or FALSE is wanted\n"),
+        CellKind::Integer => say(words, "a number is expected\n"),
+        CellKind::Bool => say(words, "TRUE or FALSE is expected\n"),
         CellKind::Set(number) => say_elements(words, image, number),
     }
 }
 
 // The elements of a set, of which one is wanted.
 fn say_elements(words: &mut Vec<u8>, image: &Image, number: u32) -> Result<(), Memory> {
-    say(words, "one of these is wanted:")?;
+    say(words, "one of these is expected:")?;
     if let Some(elements) = image.sets.as_slice().get(number as usize) {
         for element in elements.as_slice() {
             say(words, " ")?;

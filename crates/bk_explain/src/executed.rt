@@ -25,7 +25,7 @@ pub(crate) fn say_executed(
     }
     say(
         words,
-        " has a variable from above that is neither a number, a truth value, an element nor an array of these: refine it by such variables\n",
+        " has a variable from above that is not a number, a truth value, an element of a set or an array of these: refine it by such variables\n",
     )
 }
 
@@ -41,18 +41,18 @@ fn say_code(words: &mut Vec<u8>, text: &[u8], list: &[Token], index: usize) -> R
     if is_in_header(text, list, index) {
         return say(
             words,
-            " cannot be given: inputs and outputs are numbers, truth values and elements of sets\n",
+            " cannot be passed: inputs and outputs are numbers, truth values and elements of sets\n",
         );
     }
     if begins_statement(text, list, index) {
         return say(
             words,
-            " begins a statement that is not executed: there are skip, x := E for one variable, f(e) := E of an array and f := D * {E} that fills it, ;, BEGIN, VAR, IF, WHILE and ASSERT\n",
+            " begins a substitution that is not B0: allowed are skip, x := E for one variable, f(e) := E of an array and f := D * {E} that fills it, ;, BEGIN, VAR, IF, WHILE and ASSERT\n",
         );
     }
     say(
         words,
-        " begins a formula that is not executed: there are numbers within INT, truth values, elements, + - * / mod succ pred, arrays at an index, bool(P), and as conditions comparisons with = /= < <= > >=, joined by & or not\n",
+        " begins a formula that is not B0: allowed are numbers within INT, truth values, elements, + - * / mod succ pred, arrays at an index, bool(P), and as conditions comparisons with = /= < <= > >=, joined by & or not\n",
     )
 }
 

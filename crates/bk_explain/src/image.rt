@@ -15,7 +15,7 @@ pub(crate) fn say_image(words: &mut Vec<u8>, fault: LoadFault) -> Result<(), Mem
         ),
         LoadFault::Version(_) => say(words, "the image is of another version\n"),
         LoadFault::BadInst(_) => say(words, "no instruction begins with this byte\n"),
-        LoadFault::Extra(_) => say(words, "there are bytes behind the image\n"),
+        LoadFault::Extra(_) => say(words, "there are more bytes after the end of the image\n"),
         LoadFault::BadSlot(_) => say(words, "a number is out of its range\n"),
         LoadFault::BadJump(_) => say(
             words,

@@ -59,15 +59,15 @@ fn say_shape(
     match token {
         b"VAR" => say(
             words,
-            "VAR stands below the machine alone, and not within ||\n",
+            "VAR is allowed only in refinements and implementations, and not within ||\n",
         ),
         b"WHILE" => say(
             words,
-            "WHILE stands in implementations alone, and not within ||\n",
+            "WHILE is allowed only in implementations, and not within ||\n",
         ),
         _ => say(
             words,
-            "substitutions joined by ; begin here: ; stands below the machine alone, and not within ||\n",
+            "a sequence of substitutions begins here: ; is allowed only in refinements and implementations, and not within ||\n",
         ),
     }
 }
@@ -87,7 +87,7 @@ fn say_wanting(
             let name = operation.name.text.as_bytes();
             if operation_named(tree, name).is_none() {
                 say_quoted(words, name)?;
-                return say(words, " is wanting: the machine has this operation\n");
+                return say(words, " is missing: the machine has this operation\n");
             }
         }
     }
@@ -97,7 +97,7 @@ fn say_wanting(
 fn say_no_initialisation(words: &mut Vec<u8>) -> Result<(), Memory> {
     say(
         words,
-        "INITIALISATION is wanting: the component has variables\n",
+        "INITIALISATION is missing: the component has variables\n",
     )
 }
 
@@ -215,10 +215,7 @@ fn say_without_value(
             }
         }
     }
-    say(
-        words,
-        "a constant has no value: VALUES has an entry for each\n",
-    )
+    say(words, "a constant has no value: add an entry to VALUES\n")
 }
 
 // The first of these names for which the component has no entry.

@@ -16,7 +16,7 @@ pub(crate) fn say_limit(words: &mut Vec<u8>, number: u8) -> Result<(), Memory> {
         3 => say_most(
             words,
             MOST_OPEN as u64,
-            "brackets, or block words, that are open at a place",
+            "brackets, or block words, open at one place",
         ),
         4 => say_most(words, MOST_COMPONENTS as u64, "components"),
         5 => say_most(words, MOST_NAMES as u64, "names that a component declares"),
@@ -27,20 +27,20 @@ pub(crate) fn say_limit(words: &mut Vec<u8>, number: u8) -> Result<(), Memory> {
         10 => say_most(
             words,
             MOST_CELLS as u64,
-            "memory cells, and names that an image can spell",
+            "memory cells, and each name has to fit an image",
         ),
         11 => say_most(words, MOST_CALLS as u64, "calls"),
         12 => say_most(
             words,
             GREATEST_TREE_HEIGHT as u64,
-            "nodes on the longest way down of a tree",
+            "nodes from the root of a syntax tree down to a leaf",
         ),
         14 => say_most(
             words,
             MOST_NODES_TOGETHER,
             "nodes of all obligations together",
         ),
-        _ => say(words, "a limit is passed\n"),
+        _ => say(words, "a limit is exceeded\n"),
     }
 }
 
@@ -58,5 +58,5 @@ fn say_size(words: &mut Vec<u8>) -> Result<(), Memory> {
     say_number(words, MOST_NODES as usize)?;
     say(words, " nodes, and at most ")?;
     say_number(words, GREATEST_HEIGHT as usize)?;
-    say(words, " on the longest way down\n")
+    say(words, " from its root down to a leaf\n")
 }

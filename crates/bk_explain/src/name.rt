@@ -43,7 +43,7 @@ fn say_twice(
     if source.kind == SourceKind::Proofs {
         return say(
             words,
-            "a script of this name stands before it, in this file or in one before\n",
+            "another script has this name already, in this file or in one before it\n",
         );
     }
     let Some(token) = list.get(index) else {
@@ -52,13 +52,13 @@ fn say_twice(
     let name = written(source.text, token);
     say_quoted(words, name)?;
     if let Some(at) = brought_before(source.text, list, index) {
-        say(words, " stands twice; it stands first at ")?;
+        say(words, " is declared twice; it is declared first at ")?;
         say_place(words, source, at)?;
         return say(words, "\n");
     }
-    say(words, " has a meaning already")?;
+    say(words, " is declared already")?;
     if let Some((above, at)) = declared_above(alloc, sources, source, name)? {
-        say(words, ", from ")?;
+        say(words, ", at ")?;
         say_place(words, above, at)?;
     }
     say(words, "\n")
@@ -203,14 +203,14 @@ fn say_unknown(
     if let TokenKind::LevelName(_, _) = &token.kind {
         return say(
             words,
-            " is the old value of a variable: it stands in P of x :(P) alone\n",
+            " is the old value of a variable: it is allowed only in P of x :(P)\n",
         );
     }
-    say(words, " is not in sight here")?;
+    say(words, " is not visible here")?;
     let names = other_names(alloc, source, list, name)?;
     if let Some(place) = nearest(alloc, name, &names)? {
         if let Some(near) = names.get(place) {
-            say(words, "; near it is ")?;
+            say(words, "; the nearest name is ")?;
             say_quoted(words, *near)?;
         }
     }
@@ -268,12 +268,12 @@ fn say_untyped(
         say_quoted(words, name)?;
         return say(
             words,
-            " is no value, since it is not finite: it stands behind : and within POW, *, and the arrows alone\n",
+            " is not a value, since it is infinite: it is allowed only after : and within POW, * and the arrows\n",
         );
     }
     say(
         words,
-        "this formula has no type, or another one than its place asks: both sides of = and of an operator on sets are of one type, numbers stand beside + - * < <=, and {} has the type that its place tells\n",
+        "this formula has no type, or not the one that is needed here: both sides of = and of an operator on sets have one type, the operands of + - * < <= are numbers, and {} has the type that its context gives\n",
     )
 }
 
@@ -297,7 +297,7 @@ fn say_type_wanted(words: &mut Vec<u8>, name: &[u8], place: TypePlace) -> Result
         }
         TypePlace::Assignment => say(
             words,
-            " has no type: it takes that of the first term that is written to it, and none with a type is\n",
+            " has no type: it takes the type of the first term that is assigned to it, and there is none\n",
         ),
     }
 }
@@ -338,7 +338,9 @@ fn place_in_parentheses(text: &[u8], list: &[Token], open: usize) -> Option<Type
 fn place_behind(word: &[u8]) -> Option<TypePlace> {
     match word {
         b"!" => Some(TypePlace::Conjunct(" before the => of the quantifier\n")),
-        b"#" | b"{" | b"%" => Some(TypePlace::Conjunct(" as a conjunct to what it binds\n")),
+        b"#" | b"{" | b"%" => Some(TypePlace::Conjunct(
+            " as a conjunct of the predicate that it binds\n",
+        )),
         b"VAR" | b"OPERATIONS" | b";" => Some(TypePlace::Assignment),
         b"ANY" => Some(TypePlace::Conjunct(" to WHERE\n")),
         _ => None,
@@ -374,18 +376,18 @@ fn say_kind(
 ) -> Result<(), Memory> {
     let text = source.text;
     if is_strict_within(text, list, index) {
-        return say(words, "a side of <<: has no <<: of its own\n");
+        return say(words, "neither side of <<: may contain another <<:\n");
     }
     let (open, before) = behind_parentheses(text, list, index);
     if asks_predicate(text, list, open, before) {
         say(
             words,
-            "a predicate is needed here, as n < 3 or x : S is one, and this is a value; b = TRUE is the predicate of a truth value\n",
+            "a predicate is needed here, such as n < 3 or x : S, and this is an expression; of a truth value b the predicate is b = TRUE\n",
         )
     } else {
         say(
             words,
-            "a value is needed here, and this is a predicate; bool(P) is the truth value of one\n",
+            "an expression is needed here, and this is a predicate; bool(P) is the truth value of P\n",
         )
     }
 }

@@ -25,27 +25,27 @@ pub(crate) fn say_line_fault(
     if text.is_empty() {
         return say(
             words,
-            "a machine line is wanting: machine FILE stands before all other lines of components\n",
+            "a machine line is missing: the line machine FILE comes before those of all other components\n",
         );
     }
     match first_word(text) {
         b"range" => say_range(words),
         b"machine" => say(
             words,
-            "a project has one machine, whose line stands before those of other components, with the name of a file behind it\n",
+            "a project has one line machine FILE, before those of all other components\n",
         ),
         b"refinement" => say(
             words,
-            "a refinement stands behind the machine and before the implementation, with the name of a file behind it\n",
+            "a line refinement FILE comes after that of the machine and before that of the implementation\n",
         ),
         b"implementation" => say(
             words,
-            "an implementation is the last of the components, and there is one at most, with the name of a file behind it\n",
+            "a project has at most one line implementation FILE, after those of all other components\n",
         ),
-        b"proofs" => say(words, "behind proofs stands the name of a file\n"),
+        b"proofs" => say(words, "after proofs comes the name of a file\n"),
         _ => say(
             words,
-            "a line is range M, machine FILE, refinement FILE, implementation FILE or proofs FILE, and begins with its word\n",
+            "a line is range M, machine FILE, refinement FILE, implementation FILE or proofs FILE\n",
         ),
     }
 }
@@ -53,7 +53,7 @@ pub(crate) fn say_line_fault(
 fn say_range(words: &mut Vec<u8>) -> Result<(), Memory> {
     say(
         words,
-        "a range line stands once, before the machine's, with MAXINT behind it: digits of a number from 1 to ",
+        "a project has at most one line range M, before that of the machine, where M is MAXINT: the digits of a number from 1 to ",
     )?;
     say_number(words, GREATEST_MAXINT as usize)?;
     say(words, "\n")

@@ -20,13 +20,13 @@ pub(crate) fn say_lexical_fault(
     match tokens(alloc, source.text) {
         Err(LexFault::NotUtf8(_)) => say(
             words,
-            "this byte belongs to no character of UTF-8: the text is to be saved as UTF-8\n",
+            "this byte belongs to no character of UTF-8: save the text as UTF-8\n",
         ),
         Err(LexFault::BadChar(_)) => say(words, "no token begins with this character\n"),
-        Err(LexFault::OpenComment(_)) => say(words, "this comment does not end: */ is wanting\n"),
-        Err(LexFault::NumberTooWide(_)) => say(words, "this number is past 2^127 - 1\n"),
+        Err(LexFault::OpenComment(_)) => say(words, "this comment does not end: */ is missing\n"),
+        Err(LexFault::NumberTooWide(_)) => say(words, "this number is greater than 2^127 - 1\n"),
         Err(LexFault::Memory) => Err(Memory),
-        _ => say(words, "the text is to be saved as UTF-8\n"),
+        _ => say(words, "save the text as UTF-8\n"),
     }
 }
 
@@ -67,7 +67,7 @@ fn say_whole(
         if word_at(source.text, list, index.saturating_add(1)) == b":".as_slice() {
             return say(
                 words,
-                "a name is brought with two types, by fix or open, in one script\n",
+                "this script gives the name two types, by fix or open\n",
             );
         }
         return say_binding(words);
@@ -77,7 +77,7 @@ fn say_whole(
             say_quoted(words, word_at(source.text, list, index))?;
             say(
                 words,
-                " begins a clause that stands once; it stands first at ",
+                " begins a clause that is allowed only once; it begins first at ",
             )?;
             say_place(words, source, at)?;
             say(words, "\n")
@@ -113,7 +113,7 @@ fn clause_word(word: &[u8]) -> &[u8] {
 fn say_binding(words: &mut Vec<u8>) -> Result<(), Memory> {
     say(
         words,
-        "each part is written right by itself, but not how they bind: a side of <=> that is made by &, or, => or <=> needs parentheses, and so does a side of a comparison or of .. that is made by another one; LET has one conjunct x = E for each name\n",
+        "each part is correct by itself, but parentheses are missing: a side of <=> that is made by &, or, => or <=> needs them, and so does a side of a comparison or of .. that is made by another one; or LET has not exactly one conjunct x = E for each name\n",
     )
 }
 
@@ -132,7 +132,7 @@ fn say_furthest(
     };
     say(words, "what begins there cannot be read")?;
     if at != place {
-        say(words, ". The text goes on right up to\n")?;
+        say(words, ". The text is correct up to\n")?;
         say_line(words, source, at)?;
     } else {
         say(words, "\n")?;
@@ -159,7 +159,7 @@ fn say_token(
         return say(words, hint);
     }
     if source.kind.is_component() && is_addition(token, text) {
-        return say(words, " stands in printed formulas and in scripts alone");
+        return say(words, " is allowed only in printed formulas and in scripts");
     }
     if let Some(hint) = hint_of_clause(text, furthest) {
         return say(words, hint);
@@ -170,9 +170,9 @@ fn say_token(
         }
     }
     if is_small_word(token, text) && is_name_wanted(furthest) {
-        return say(words, " is a reserved word, and no name");
+        return say(words, " is a reserved word and cannot be a name");
     }
-    say(words, " cannot stand here")
+    say(words, " is not expected here")
 }
 
 // Whether a token is one of those that printed formulas have and components have not.
@@ -187,13 +187,13 @@ fn is_addition(token: &Token, text: &[u8]) -> bool {
 fn hint_of_clause(text: &[u8], furthest: &Furthest) -> Option<&'static str> {
     if is_wanted(furthest, b"<clause>") || is_wanted(furthest, b"<clauses>") {
         if text == b"VALUES".as_slice() {
-            return Some(" is a clause of implementations alone");
+            return Some(" is a clause of implementations only");
         }
     }
     if is_wanted(furthest, b"<lowest-clause>") || is_wanted(furthest, b"<lowest-clauses>") {
         if is_one_of(text, &["VARIABLES", "ABSTRACT_VARIABLES"]) {
             return Some(
-                " is no clause of an implementation: its variables stand in CONCRETE_VARIABLES",
+                " is not a clause of an implementation: its variables are declared in CONCRETE_VARIABLES",
             );
         }
     }
@@ -217,7 +217,7 @@ fn hint_of_place(
         return Some(" is not read: there are no sequences");
     }
     if is_set_alone(text, list, furthest) {
-        return Some(" cannot stand here: the elements of a set are listed, as in S = {a, b}");
+        return Some(" is not expected here: the elements of a set are listed, as in S = {a, b}");
     }
     None
 }
@@ -324,9 +324,9 @@ fn begins_with_name(part: &[u8]) -> bool {
 // What could stand there.
 fn say_wanted(words: &mut Vec<u8>, furthest: &Furthest) -> Result<(), Memory> {
     if furthest.wanted.is_empty() {
-        return say(words, "; nothing can: the text is whole before it\n");
+        return say(words, "; the text should end before it\n");
     }
-    say(words, "; what can: ")?;
+    say(words, "; expected: ")?;
     for (index, symbol) in furthest.wanted.iter().enumerate() {
         if !is_said(&furthest.wanted, index, *symbol) {
             if index > 0 {
@@ -385,13 +385,13 @@ fn say_semicolon(
     if ends_list(word_at(source.text, list, furthest.token)) {
         return say(
             words,
-            "a semicolon stands between two parts, and none before the end\n",
+            "a semicolon separates two parts; there is none before the end\n",
         );
     }
     if is_wanted(furthest, b"<operation>") {
         return say(
             words,
-            "a semicolon divides operations here: substitutions that it joins stand within BEGIN and END\n",
+            "a semicolon separates operations here: put a sequence of substitutions between BEGIN and END\n",
         );
     }
     Ok(())
@@ -430,14 +430,12 @@ fn hint_of(text: &[u8]) -> Option<&'static str> {
 fn hint_of_word(text: &[u8]) -> Option<&'static str> {
     match text {
         b"CONSTRAINTS" => Some(" is not read: a machine has no parameters"),
-        b"DEFINITIONS" => {
-            Some(" is not read: each definition is to be written where it is used")
-        }
+        b"DEFINITIONS" => { Some(" is not read: write each definition out where it is used") }
         b"ABSTRACT_CONSTANTS" => Some(
             " is not read: constants are numbers, truth values or elements, declared in CONSTANTS",
         ),
         b"CASE" => Some(" is not read: write it as IF and ELSIF, or as SELECT"),
-        b"ELSEIF" => Some(" is no reserved word: a further branch of IF begins with ELSIF"),
+        b"ELSEIF" => Some(" is not a keyword: a further branch of IF begins with ELSIF"),
         _ => None,
     }
 }

@@ -25,7 +25,7 @@ pub fn explanation(alloc: Global, stop: &Stop, sources: &[Source<'_>]) -> Result
         Stop::Unproved(name) => say_unproved(&mut words, name)?,
         Stop::Incomplete(_) => say(
             &mut words,
-            "the last component is no implementation, so that there is nothing to run\n",
+            "the last component is not an implementation, so there is nothing to run\n",
         )?,
         Stop::BadCalls(line) => say_calls(alloc, &mut words, sources, *line as usize)?,
         Stop::BadImage(fault) => say_image(&mut words, *fault)?,

@@ -20,13 +20,13 @@ pub(crate) fn say_written(
     let name = word_at(text, list, index);
     if stands_before(text, list, index) {
         say_quoted(words, name)?;
-        return say(words, " stands twice on the left\n");
+        return say(words, " is assigned twice at once\n");
     }
     if is_constant(alloc, sources, name)? {
         say_quoted(words, name)?;
         return say(
             words,
-            " is a constant: only variables, outputs and locals are written\n",
+            " is a constant: only variables, outputs and local variables are assigned\n",
         );
     }
     let (names, terms) = counts(text, list, index);
@@ -35,11 +35,11 @@ pub(crate) fn say_written(
     }
     say_quoted(words, name)?;
     if is_written_beside(text, list, index) {
-        return say(words, " is written on both sides of ||\n");
+        return say(words, " is assigned on both sides of ||\n");
     }
     say(
         words,
-        " cannot be written here: only the variables of this component, outputs and locals are\n",
+        " cannot be assigned here: only the variables of this component, outputs and local variables can\n",
     )
 }
 
@@ -49,11 +49,11 @@ fn begins_list(text: &[u8], list: &[Token], index: usize) -> bool {
 }
 
 fn say_counts(words: &mut Vec<u8>, names: usize, terms: usize) -> Result<(), Memory> {
-    say(words, "left of := stand ")?;
+    say(words, "the number of variables on the left of := is ")?;
     say_number(words, names)?;
-    say(words, ", right of it ")?;
+    say(words, ", and the number of expressions on the right is ")?;
     say_number(words, terms)?;
-    say(words, ": a term is wanted for each name\n")
+    say(words, "\n")
 }
 
 // How many names and how many terms an assignment has whose names begin at a token; no terms where none begins there.

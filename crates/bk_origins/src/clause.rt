@@ -156,9 +156,9 @@ impl<'a> Site<'a> {
     fn joined_leaves(&self, outputs: usize) -> Result<Vec<Leaf>, Memory> {
         let level = self.level;
         let mut leaves = self.invariant_leaves()?;
-        for (variable, _) in &level.links {
+        for (variable, above) in &level.links {
             leaves.push(Leaf {
-                what: What::Linked(*variable),
+                what: What::Linked(*variable, *above),
                 at: None,
             })?;
         }

@@ -7,7 +7,7 @@ ghost use Rattle.bk_origins.specs.Concerns.{concern_of, concern_by, dots, behind
 #[derive(Clone, Copy, PartialEq, Eq, Debug)]
 pub enum Concern {
     Initialisation,
-    /// That an operation keeps the invariant, and does what the level above allows.
+    /// That an operation preserves the invariant, and refines the one above.
     Operation,
     Assertion,
     /// That the values of constants meet the properties.

@@ -7,13 +7,13 @@ pub(crate) fn defined_words(goal: &Form) -> &'static [u8] {
     match goal.view() {
         View::Un(UnOp::Not, operand) => denied_words(operand),
         View::Bin(BinOp::Le, left, _) if is_number(left) => {
-            b"the dividend of mod, or the exponent, is not below 0"
+            b"the dividend of mod, or the exponent, is not negative"
         }
-        View::Bin(BinOp::Lt, left, _) if is_number(left) => b"the divisor of mod is above 0",
+        View::Bin(BinOp::Lt, left, _) if is_number(left) => b"the divisor of mod is positive",
         View::Bin(BinOp::In, _, set) => member_words(set),
         View::Bin(BinOp::Imp, _, asked) => defined_words(asked),
         View::All(_, body) => defined_words(body),
-        _ => b"what is named is defined",
+        _ => b"each term is defined",
     }
 }
 
@@ -22,10 +22,10 @@ pub(crate) fn fitting_words(goal: &Form, greatest: i64) -> &'static [u8] {
     match goal.view() {
         View::Un(UnOp::Not, operand) => denied_words(operand),
         View::Bin(BinOp::Le, left, right) => bounded_words(left, right, i128::from(greatest)),
-        View::Bin(BinOp::Lt, left, _) if is_number(left) => b"the divisor of mod is above 0",
+        View::Bin(BinOp::Lt, left, _) if is_number(left) => b"the divisor of mod is positive",
         View::Bin(BinOp::Imp, _, asked) => fitting_words(asked, greatest),
         View::All(_, body) => fitting_words(body, greatest),
-        _ => b"what is executed fits the machine",
+        _ => b"what is executed is defined, and within MININT..MAXINT",
     }
 }
 
@@ -34,23 +34,23 @@ fn denied_words(operand: &Form) -> &'static [u8] {
     match operand.view() {
         View::Bin(BinOp::Eq, _, right) => match right.view() {
             View::Int(0) => b"the divisor is not 0",
-            View::Empty(_) => b"the set has a least and a greatest element",
-            _ => b"what is named is defined",
+            View::Empty(_) => b"the set of min or max is not empty",
+            _ => b"each term is defined",
         },
-        _ => b"what is named is defined",
+        _ => b"each term is defined",
     }
 }
 
 // Of `a <= b` where something is executed.
 fn bounded_words(left: &Form, right: &Form, greatest: i128) -> &'static [u8] {
     if is_sum(right) && is_opposite(left, greatest) {
-        return b"the result is not below the least number of the machine";
+        return b"the result is at least MININT";
     }
     if is_sum(left) && is_this(right, greatest) {
-        return b"the result is not above the greatest number of the machine";
+        return b"the result is at most MAXINT";
     }
     if is_this(left, 0) {
-        return b"array index is in bounds, or the dividend of mod is not below 0";
+        return b"array index is in bounds, or the dividend of mod is not negative";
     }
     b"array index is in bounds"
 }
@@ -86,6 +86,6 @@ fn member_words(set: &Form) -> &'static [u8] {
     match set.view() {
         View::Bin(BinOp::PartialFunctions, _, _) => b"what is applied is a function",
         View::Un(UnOp::Dom, _) => b"the argument is in the function's domain",
-        _ => b"what is named is defined",
+        _ => b"each term is defined",
     }
 }

@@ -18,9 +18,9 @@ pub(crate) struct Leaf {
 pub(crate) enum What {
     /// This conjunct of the invariant, the properties or an assertion.
     Conjunct(usize),
-    /// That a variable is as above.
-    Linked(u32),
-    /// That the output with this number is as above.
+    /// That a variable equals one above.
+    Linked(u32, u32),
+    /// That the output with this number equals the one above.
     Output(usize),
     /// A condition: of PRE, ASSERT or a guard.
     Condition,

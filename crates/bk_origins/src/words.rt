@@ -63,6 +63,11 @@ impl Site<'_> {
     // ` in take`, ` in the invariant`.
     fn say_where(&self, words: &mut Vec<u8>, clause: Clause) -> Result<(), Memory> {
         words.extend_from_slice(b" in ")?;
+        self.say_site(words, clause)
+    }
+
+    // `take`, `the invariant`.
+    fn say_site(&self, words: &mut Vec<u8>, clause: Clause) -> Result<(), Memory> {
         match clause {
             Clause::PropertiesDefined => words.extend_from_slice(b"the properties")?,
             Clause::Values => words.extend_from_slice(b"the values")?,
@@ -84,9 +89,11 @@ impl Site<'_> {
     fn say_clause(&self, words: &mut Vec<u8>, clause: Clause) -> Result<(), Memory> {
         match clause {
             Clause::Values => words.extend_from_slice(
-                b"the constants' values meet the properties",
+                b"the values of the constants satisfy the properties",
             )?,
-            Clause::Assertions => words.extend_from_slice(b"an assertion follows")?,
+            Clause::Assertions => words.extend_from_slice(
+                b"an assertion follows from those before it",
+            )?,
             Clause::Initialisation => self.say_start(words)?,
             _ => self.say_operation(words, clause)?,
         }
@@ -95,9 +102,9 @@ impl Site<'_> {
 
     fn say_start(&self, words: &mut Vec<u8>) -> Result<(), Memory> {
         words.extend_from_slice(if self.number == 0 {
-            b"the initialisation meets the invariant"
+            b"the initialisation establishes the invariant"
         } else {
-            b"the initialisation is one that the level above allows, and meets the invariant"
+            b"the initialisation refines the one above, and establishes the invariant"
         })?;
         Ok(())
     }
@@ -107,9 +114,9 @@ impl Site<'_> {
             words.extend_from_slice(self.operation_name(operation))?;
         }
         words.extend_from_slice(if self.number == 0 {
-            b" keeps the invariant"
+            b" preserves the invariant"
         } else {
-            b" does what the level above allows, and keeps the invariant"
+            b" refines the operation above, and preserves the invariant"
         })?;
         Ok(())
     }
@@ -118,24 +125,20 @@ impl Site<'_> {
     fn say_leaf(&self, words: &mut Vec<u8>, clause: Clause, leaf: Leaf) -> Result<(), Memory> {
         match leaf.what {
             What::Conjunct(number) => self.say_conjunct(words, clause, number),
-            What::Linked(variable) => self.say_linked(words, clause, variable),
-            What::Output(number) => {
-                self.say_numbered(words, b"output ", number, b" is as above", clause)
-            }
-            What::Condition => self.say_with(words, b"a condition holds", clause),
-            What::AtFirst => {
-                self.say_with(
-                    words,
-                    b"loop: the invariant holds before the first turn",
-                    clause,
-                )
-            }
-            What::Kept => self.say_with(words, b"loop: a turn keeps the invariant", clause),
+            What::Linked(variable, above) => self.say_linked(words, clause, variable, above),
+            What::Output(number) => self.say_output(words, clause, number),
+            What::Condition => self.say_with(
+                words,
+                b"a condition of PRE, ASSERT or SELECT holds",
+                clause,
+            ),
+            What::AtFirst => { self.say_with(words, b"loop: the invariant holds on entry", clause) }
+            What::Kept => self.say_with(words, b"loop: the body preserves the invariant", clause),
             What::Natural => {
                 self.say_with(words, b"loop: the variant is a natural number", clause)
             }
             What::Falls => self.say_with(words, b"loop: the variant falls", clause),
-            What::Behind => self.say_with(words, b"loop: what follows is met", clause),
+            What::Behind => self.say_with(words, b"loop: what follows holds on exit", clause),
             What::Whole => self.say_clause(words, clause),
         }
     }
@@ -145,18 +148,14 @@ impl Site<'_> {
         self.say_where(words, clause)
     }
 
-    fn say_numbered(
-        &self,
-        words: &mut Vec<u8>,
-        before: &[u8],
-        number: usize,
-        behind: &[u8],
-        clause: Clause,
-    ) -> Result<(), Memory> {
-        words.extend_from_slice(before)?;
+    // `output 1 of count equals the one above`.
+    fn say_output(&self, words: &mut Vec<u8>, clause: Clause, number: usize) -> Result<(), Memory> {
+        words.extend_from_slice(b"output ")?;
         words.extend_from_slice(Buffer::new().format(number).as_bytes())?;
-        words.extend_from_slice(behind)?;
-        self.say_where(words, clause)
+        words.extend_from_slice(b" of ")?;
+        self.say_site(words, clause)?;
+        words.extend_from_slice(b" equals the one above")?;
+        Ok(())
     }
 
     // `invariant conjunct 3 is preserved by take`.
@@ -177,19 +176,32 @@ impl Site<'_> {
                 words.extend_from_slice(b" is preserved by ")?;
                 words.extend_from_slice(self.operation_name(operation))?;
             }
-            _ => words.extend_from_slice(b" holds at the start")?,
+            _ => words.extend_from_slice(b" is established by the initialisation")?,
         }
         Ok(())
     }
 
-    // `stock is as above in take`.
-    fn say_linked(&self, words: &mut Vec<u8>, clause: Clause, variable: u32) -> Result<(), Memory> {
+    // `stock$1 = stock$0 after take`.
+    fn say_linked(
+        &self,
+        words: &mut Vec<u8>,
+        clause: Clause,
+        variable: u32,
+        above: u32,
+    ) -> Result<(), Memory> {
+        self.say_variable(words, variable)?;
+        words.extend_from_slice(b" = ")?;
+        self.say_variable(words, above)?;
+        words.extend_from_slice(b" after ")?;
+        self.say_site(words, clause)
+    }
+
+    fn say_variable(&self, words: &mut Vec<u8>, variable: u32) -> Result<(), Memory> {
         let dev = self.dev;
         match dev.table.text(variable) {
             Some(text) => words.extend_from_slice(text.as_bytes())?,
             None => words.extend_from_slice(b"a variable")?,
         }
-        words.extend_from_slice(b" is as in the level above")?;
-        self.say_where(words, clause)
+        Ok(())
     }
 }

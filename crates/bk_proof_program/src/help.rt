@@ -21,12 +21,12 @@ struct Entry {
 pub(crate) const USAGE: &str = "usage: bkproof VERB FILE [FILE] [OPTION], or bkproof --help\n";
 
 const PURPOSE: &str =
-    "Shows proofs, faults and the status of developments in the classical B Method. Whether an obligation is proved is told by bkit.";
+    "Shows proofs, faults and the status of developments in the classical B Method. Whether an obligation is proved is decided by bkit.";
 
 const ENTRIES: &[Entry] = &[
     Entry {
         words: "goal PROJECT NAME [--at K]",
-        text: "the sequents of the obligation NAME that are open behind rule K of its script, or behind the last rule that fits, and why the next rule does not fit",
+        text: "the sequents of the obligation NAME that are open after rule K of its script, or after the last rule that fits, and why the next rule does not fit",
     },
     Entry {
         words: "list PROJECT [--open] [--json]",
@@ -38,7 +38,7 @@ const ENTRIES: &[Entry] = &[
     },
     Entry {
         words: "prune PROJECT FILE",
-        text: "the proof file FILE without rules whose results nothing uses, with the numbers of hypotheses as they then are",
+        text: "the proof file FILE without the rules whose results nothing uses, and with the numbers of hypotheses changed accordingly",
     },
     Entry {
         words: "report PROJECT [--json | --html]",
@@ -58,7 +58,7 @@ const ENTRIES: &[Entry] = &[
 const WIDTH: usize = 78;
 
 const STATUS: &str =
-    "Exit status: 0 where the work is done and nothing is left; 4 where it is done and something is open; 1 for wrong words or an unknown NAME; as of bkit where a file is missing (2), refused (3) or not read (10), the output fails (11), or memory ends (12); explain ends as bkit does at the fault.";
+    "Exit status: 0 if the work is done and nothing is left; 4 if it is done and something is open; 1 for wrong words or an unknown NAME; that of bkit if a file is missing (2), refused (3) or not readable (10), if the output fails (11) or if there is no memory (12); explain ends with the status that bkit has at the fault.";
 
 /// The text of `--help`.
 pub(crate) fn help_answer(alloc: Global) -> Result<Answer, Stop>

@@ -41,7 +41,8 @@ fn say_fault(
     match fault {
         ArithFault::NotLinear(place) => say_not_linear(words, numbers, hyps, goal, place),
         ArithFault::Cert(fault) => {
-            say_certificate_fault(words, fault)?;
+            let given = facts_of(words, hyps, goal)?;
+            say_certificate_fault(words, given.len(), lines, fault)?;
             say_facts(words, numbers, hyps, goal, lines, fault)
         }
         ArithFault::TooWide => words.say(b"a number of a fact is past 128 bits"),
@@ -60,33 +61,53 @@ fn say_not_linear(
 ) -> Result<(), Memory> {
     let index = place.saturating_sub(1);
     let (Some(number), Some(hypothesis)) = (numbers.get(index), hyps.get(index)) else {
-        words.say(b"the goal is no a <= b, a < b or bfalse: it is ")?;
+        words.say(b"the goal is not of the form a <= b, a < b or bfalse: it is ")?;
         words.form(goal)?;
         return words.say(
-            b"; of a = b law O1 makes two, of a : l .. h law O5, and contra makes bfalse of any goal",
+            b"; law O1 turns a = b into two of these, law O5 a : l .. h, and contra turns any goal into bfalse",
         );
     };
     words.hypothesis(*number)?;
-    words.say(b" is no comparison of which lin makes facts: it is ")?;
+    words.say(b" is not a comparison that lin takes: it is ")?;
     words.form(hypothesis)
 }
 
-fn say_certificate_fault(words: &mut Words<'_>, fault: CertFault) -> Result<(), Memory> {
+// What is wrong with a certificate over so many facts.
+fn say_certificate_fault(
+    words: &mut Words<'_>,
+    given: usize,
+    lines: &[Line],
+    fault: CertFault,
+) -> Result<(), Memory> {
     match fault {
-        CertFault::BadLine(line) => say_line(
-            words,
-            line,
-            b" names a fact that does not stand before it, or divides by what does not divide each coefficient",
-        ),
-        CertFault::Negative(line) => {
-            say_line(
-                words,
-                line,
-                b" has a negative multiplier, or a divisor below 1",
-            )
-        }
+        CertFault::BadLine(line) => say_line(words, line, bad_line_words(given, lines, line)),
+        CertFault::Negative(line) => say_line(words, line, negative_words(lines, line)),
         CertFault::TooWide(line) => say_line(words, line, b" makes a number past 128 bits"),
-        CertFault::NotClosed => words.say(b"the last fact is no contradiction"),
+        CertFault::NotClosed => words.say(b"the last fact is not a contradiction"),
+    }
+}
+
+// What is wrong with the line of this number, from 1, that names no fact, or divides one that is not divisible.
+fn bad_line_words(given: usize, lines: &[Line], number: usize) -> &'static [u8] {
+    let made = number.saturating_sub(1);
+    match lines.get(made) {
+        Some(Line::Div { fact, by: _ }) if is_one_of(*fact, given.saturating_add(made)) => {
+            b" divides by a number that does not divide each coefficient of the fact"
+        }
+        _ => b" names a fact that does not stand before it",
+    }
+}
+
+// Whether one of so many facts has this number.
+fn is_one_of(number: u32, count: usize) -> bool {
+    number > 0 && number as usize <= count
+}
+
+// What is wrong with the line of this number, from 1, that has a number below its least one.
+fn negative_words(lines: &[Line], number: usize) -> &'static [u8] {
+    match lines.get(number.saturating_sub(1)) {
+        Some(Line::Div { fact: _, by: _ }) => b" divides by a number below 1",
+        _ => b" has a negative multiplier",
     }
 }
 

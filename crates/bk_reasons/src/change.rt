@@ -44,16 +44,16 @@ pub(crate) fn change_does_not_fit(
 fn is_of_other_form(words: &mut Words<'_>, change: Change<'_>, old: &Form) -> Result<bool, Memory> {
     let wanted: &[u8] = match change {
         Change::Deciding => {
-            b"comparison of sums of numbers, no membership of one in NATURAL, NATURAL1 or an interval, and no equality of two elements or truth values"
+            b"a comparison of sums of numbers, a membership of one in NATURAL, NATURAL1 or an interval, or an equality of two elements or truth values"
         }
-        Change::Typing => b"E : N where N is BOOL, INTEGER or an enumerated set",
-        Change::Negating => b"not of a quantifier",
-        Change::Belonging => b"membership in a comprehension, or of a pair in a lambda",
-        Change::Applying => b"lambda applied to terms",
-        Change::Extending => b"equality of sets",
-        Change::Including => b"S : POW(A)",
+        Change::Typing => b"of the form E : N where N is BOOL, INTEGER or an enumerated set",
+        Change::Negating => b"the negation of a quantifier",
+        Change::Belonging => b"a membership in a comprehension, or of a pair in a lambda",
+        Change::Applying => b"a lambda applied to a term",
+        Change::Extending => b"an equality of sets",
+        Change::Including => b"of the form S : POW(A)",
         Change::Witnessing => {
-            b"member of a domain, a range or an image, nor a pair in a composition"
+            b"a membership in a domain, a range or an image, or of a pair in a composition"
         }
         Change::Equation(_, _) | Change::Law(_, _, _) => return Ok(false),
     };
@@ -62,7 +62,7 @@ fn is_of_other_form(words: &mut Words<'_>, change: Change<'_>, old: &Form) -> Re
     }
     words.say(b"at the place stands ")?;
     words.form(old)?;
-    words.say(b", which is no ")?;
+    words.say(b", which is not ")?;
     words.say(wanted)?;
     Ok(true)
 }
@@ -158,7 +158,7 @@ fn equation_is_elsewhere(
     };
     let View::Bin(BinOp::Eq, left, right) = hypothesis.view() else {
         words.hypothesis(number)?;
-        words.say(b" is no E = F: it is ")?;
+        words.say(b" is not of the form E = F: it is ")?;
         words.form(hypothesis)?;
         return Ok(true);
     };

@@ -66,12 +66,12 @@ pub(crate) fn is_denied(
         return Ok(true);
     }
     words.hypothesis(denial)?;
-    words.say(b" does not deny ")?;
+    words.say(b" is not the negation of ")?;
     words.hypothesis(number)?;
     words.say(b", which is ")?;
     words.form(hypothesis)?;
     if denies(&sequent.hyps, denial, number) {
-        words.say(b"; the other way round it fits")?;
+        words.say(b"; with the two numbers exchanged it fits")?;
     }
     Ok(true)
 }
@@ -117,7 +117,7 @@ pub(crate) fn sums_differ(words: &mut Words<'_>, sequent: &Sequent) -> Result<bo
     match polynomial(words.alloc, left, right) {
         Ok(true) => Ok(false),
         Ok(false) => {
-            words.say(b"the sides do not multiply out to the same: ")?;
+            words.say(b"the sides are not equal when they are multiplied out: ")?;
             words.form(left)?;
             words.say(b" and ")?;
             words.form(right)?;
@@ -146,7 +146,7 @@ pub(crate) fn is_undecided(
         return Ok(true);
     }
     words.say(
-        b" is no comparison of sums of numbers, and no membership of one in NATURAL, NATURAL1 or an interval: it is ",
+        b" is not a comparison of sums of numbers, or a membership of one in NATURAL, NATURAL1 or an interval: it is ",
     )?;
     words.form(form)?;
     Ok(true)

@@ -22,7 +22,7 @@ pub(crate) fn law_does_not_fit(
     old: &Form,
 ) -> Result<bool, Memory> {
     if !are_within(picks) {
-        words.say(b"a term passes ")?;
+        words.say(b"a term exceeds ")?;
         say_limits(words)?;
         return Ok(true);
     }
@@ -61,7 +61,7 @@ fn say_picks(words: &mut Words<'_>, law: u16, given: usize, number: u32) -> Resu
     if text.count != given {
         say_count(words, &text, given)?;
     } else {
-        words.say(b"the law asks the empty set, {:T}, for term ")?;
+        words.say(b"the law takes only an empty set, {:T}, as term ")?;
         words.number(number as usize)?;
     }
     say_law(words, &text)

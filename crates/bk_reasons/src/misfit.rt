@@ -22,7 +22,7 @@ pub fn write_misfit(words: &mut Words<'_>, sequent: &Sequent, rule: &Rule) -> Re
     if of_terms(words, sequent, rule)? || of_place(words, sequent, rule)? {
         return Ok(());
     }
-    words.say(b"what the rule makes is no predicate, or it passes ")?;
+    words.say(b"what the rule makes is not a predicate, or it exceeds ")?;
     say_limits(words)
 }
 

@@ -3,7 +3,7 @@
 use crate::words::Words;
 use bk_arith::{ArithFault, cases};
 use bk_bind::free_in;
-use bk_form::{Form, Ty, TyView, View};
+use bk_form::{BinOp, Form, Ty, TyView, View};
 use bk_io::Memory;
 use bk_seq::{Sequent, numbered};
 use bk_types::{Role, role_of};
@@ -131,7 +131,7 @@ fn say_role(words: &mut Words<'_>, role: &Role) -> Result<(), Memory> {
             words.say(b" is of type ")?;
             words.of_type(ty)
         }
-        Role::Domain(_) => words.say(b" is no value: its elements are not finitely many"),
+        Role::Domain(_) => words.say(b" is not a value, since it is an infinite set"),
         Role::Predicate => words.say(b" is a predicate"),
         Role::Nothing => words.say(b" has no type"),
     }
@@ -148,7 +148,7 @@ fn is_named_otherwise(words: &mut Words<'_>, name: u32, ty: &Ty) -> Result<bool,
     say_name(words, name)?;
     words.say(b" is of type ")?;
     words.of_type(own)?;
-    words.say(b", and the variable of type ")?;
+    words.say(b", and the variable is of type ")?;
     words.of_type(ty)?;
     Ok(true)
 }
@@ -164,15 +164,15 @@ fn say_name(words: &mut Words<'_>, name: u32) -> Result<(), Memory> {
 fn is_taken(words: &mut Words<'_>, sequent: &Sequent, name: u32) -> Result<bool, Memory> {
     if free_in(&sequent.goal, name) {
         say_name(words, name)?;
-        words.say(b" stands in the goal already: take another name")?;
+        words.say(b" occurs in the goal already: take another name")?;
         return Ok(true);
     }
     for (index, hypothesis) in sequent.hyps.iter().enumerate() {
         if free_in(hypothesis, name) {
             say_name(words, name)?;
-            words.say(b" stands in hypothesis ")?;
+            words.say(b" occurs in hypothesis ")?;
             words.number(index.saturating_add(1))?;
-            words.say(b" already: take another name, or drop it before")?;
+            words.say(b" already: take another name, or drop the hypothesis before")?;
             return Ok(true);
         }
     }
@@ -185,7 +185,7 @@ pub(crate) fn no_predicate(words: &mut Words<'_>, form: &Form) -> Result<bool, M
     if let Role::Predicate = role {
         return Ok(false);
     }
-    words.say(b"what the rule brings is no predicate: ")?;
+    words.say(b"the term is not a predicate: ")?;
     words.form(form)?;
     say_role(words, &role)?;
     Ok(true)
@@ -239,9 +239,26 @@ pub(crate) fn no_cases(
         Err(_) => {}
     }
     words.hypothesis(number)?;
-    words.say(
-        b" is no membership in an interval of at most 64 numbers whose bounds are written: it is ",
-    )?;
+    words.say(if is_in_interval(hypothesis) {
+        b" is a membership in an interval of more than 64 numbers: it is "
+    } else {
+        b" is not a membership in an interval whose bounds are numbers: it is "
+    })?;
     words.form(hypothesis)?;
     Ok(true)
+}
+
+// Whether a formula is a membership in an interval whose bounds are numbers.
+fn is_in_interval(form: &Form) -> bool {
+    match form.view() {
+        View::Bin(BinOp::In, _, set) => match set.view() {
+            View::Bin(BinOp::Range, low, high) => is_number(low) && is_number(high),
+            _ => false,
+        },
+        _ => false,
+    }
+}
+
+fn is_number(form: &Form) -> bool {
+    matches!(form.view(), View::Int(_))
 }

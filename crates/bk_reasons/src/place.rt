@@ -60,7 +60,7 @@ fn say_parts(words: &mut Words<'_>, form: &Form, number: u32) -> Result<(), Memo
     words.say(b"there is no such place: ")?;
     words.form(form)?;
     match parts_of(form) {
-        Parts::Bound => words.say(b" binds variables, and a place does not go into what is bound"),
+        Parts::Bound => words.say(b" binds variables, and a place cannot lead below a binder"),
         Parts::Are(0) => words.say(b" has no parts"),
         Parts::Are(count) => {
             words.say(b" has parts 1 to ")?;

@@ -93,7 +93,7 @@ pub(crate) fn goal_is_no(
     if shape.is_of(&sequent.goal) {
         return Ok(false);
     }
-    words.say(b"the goal is no ")?;
+    words.say(b"the goal is not of the form ")?;
     words.say(shape.text())?;
     words.say(b": it is ")?;
     words.form(&sequent.goal)?;
@@ -115,7 +115,7 @@ pub(crate) fn hypothesis_is_no(
         return Ok(false);
     }
     words.hypothesis(number)?;
-    words.say(b" is no ")?;
+    words.say(b" is not of the form ")?;
     words.say(shape.text())?;
     words.say(b": it is ")?;
     words.form(hypothesis)?;

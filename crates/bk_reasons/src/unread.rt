@@ -179,7 +179,7 @@ fn say_fault(
     match fault {
         ElabFault::Fault { number, place } => say_at(words, written, scope, number, place),
         ElabFault::Limit(number) => {
-            words.say(b" passes limit ")?;
+            words.say(b" exceeds limit ")?;
             words.number(number as usize)
         }
         ElabFault::Memory => Err(Memory),
@@ -201,17 +201,19 @@ fn say_at(
         8 => {
             say_quoted(
                 words,
-                b" has no type, or not the one that is asked, at ",
+                b" has no type, or not the one that is needed, at ",
                 token,
                 b"",
             )?;
-            words.say(b"; the empty set of a type T is {:T}, and NATURAL and INTEGER are no values")
+            words.say(
+                b"; the empty set of a type T is {:T}, and NATURAL and INTEGER are not values",
+            )
         }
         9 => say_quoted(
             words,
             b" has at ",
             token,
-            b" a value where a predicate is asked, or the reverse",
+            b" a value where a predicate is needed, or the reverse",
         ),
         _ => say_quoted(words, b" is at fault at ", token, b""),
     }
@@ -234,12 +236,12 @@ fn say_quoted(
 fn say_unknown(words: &mut Words<'_>, scope: &Scope, token: &[u8]) -> Result<(), Memory> {
     say_quoted(words, b" reads ", token, b", which is not in scope")?;
     if token.first() == Some(&b'$') {
-        return words.say(b": no printed binder stands around it");
+        return words.say(b": it stands below no binder");
     }
     let names = names_in(words, scope)?;
     let alloc = words.alloc;
     if let Some(index) = like(alloc, token, &names)? {
-        words.say(b"; near it is ")?;
+        words.say(b"; the nearest name is ")?;
         words.say(names.get(index).copied().unwrap_or(&[]))?;
     }
     say_names(words, &names)
@@ -336,7 +338,7 @@ fn no_such_set(words: &mut Words<'_>, name: &[u8]) -> Result<bool, Memory> {
     }
     words.say(b"`")?;
     words.say(name)?;
-    words.say(b"` is no type: types are INTEGER, BOOL, the sets in scope, POW(T) and (T * U)")?;
+    words.say(b"` is not a type: types are INTEGER, BOOL, the sets in scope, POW(T) and (T * U)")?;
     Ok(true)
 }
 
@@ -357,7 +359,7 @@ fn name_is_other(words: &mut Words<'_>, scope: &Scope, name: &RawTyped) -> Resul
     words.say(text)?;
     words.say(b"` is of type ")?;
     words.of_type(ty)?;
-    words.say(b" already, and not of the type that is written")?;
+    words.say(b" already, which is not the type that is written")?;
     Ok(true)
 }
 
