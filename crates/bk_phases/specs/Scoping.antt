@@ -1,0 +1,70 @@
+-- Where names may be seen, said of a resolved substitution: the scope of each of its terms has only variables that may be seen where the
+-- term stands, what is written to may be seen too, and what is bound is new and different.
+-- Source: B Language Reference Manual, visibility.
+use Rattle.std.specs.Prelude.{◌≡◌, ℕ, Bool, true, ◌||◌, List, [], ◌∷◌, map}
+use Rattle.bk_gsl.specs.State.{among}
+use Rattle.bk_dev.specs.Facts.{AreNew, AreDistinct}
+use Rattle.bk_raw.specs.Trees.SubTree.{SubTree}
+use Rattle.bk_statics.specs.Typings.{Target, variable_target}
+use Rattle.bk_statics.specs.Settled.{AreSeen, IsBelow}
+use Rattle.bk_phases.specs.Scope.{Local, numbers, Written}
+use Rattle.bk_phases.specs.Term.{Term}
+use Rattle.bk_phases.specs.Statement.{Statement, skip_at, assign_at, update_at, member_at, such_at, call_at, pre_at, assert_at, if_at}
+use Rattle.bk_phases.specs.Statement.{guard_at, choice_at, else_at, branches_at, any_at, var_at, loop_at, par_at, seq_at}
+use Rattle.bk_phases.specs.Resolve.{Scope, resolved}
+
+-- what is written to may be seen
+abbrev pub IsTargetSeen : (ℕ → Bool) → Target → Type 0
+IsTargetSeen visible (variable_target n) = visible n ≡ true
+IsTargetSeen visible _ = Unit {0}
+
+-- so it is of each written name
+abbrev pub AreTargetsSeen : (ℕ → Bool) → List Written → Type 0
+AreTargetsSeen visible [] = Unit {0}
+AreTargetsSeen visible (x ∷ xs) = IsTargetSeen visible x.target × AreTargetsSeen visible xs
+
+-- the names in scope of terms may be seen
+abbrev pub AreTermsSeen : (ℕ → Bool) → List Term → Type 0
+AreTermsSeen visible [] = Unit {0}
+AreTermsSeen visible (t ∷ ts) = AreSeen visible t.names × AreTermsSeen visible ts
+
+-- what may be seen where these are bound
+abbrev pub seen_with : List Local → (ℕ → Bool) → ℕ → Bool
+seen_with zs visible n = among (numbers zs) n || visible n
+
+-- none of them may be seen outside, and no two have one number
+pub record AreBound (visible : ℕ → Bool) (zs : List Local) : Type 0 where
+  pub new : AreNew visible (numbers zs)
+  pub distinct : AreDistinct (numbers zs)
+
+-- each term sees what it may where it stands; a loop's invariant and variant see what `above` admits too
+abbrev pub IsScoped : (ℕ → Bool) → (ℕ → Bool) → Statement → Type 0
+IsScoped visible above (skip_at at) = Unit {0}
+IsScoped visible above (assign_at at xs es) = AreTargetsSeen visible xs × AreTermsSeen visible es
+IsScoped visible above (update_at at f e v) = IsTargetSeen visible f.target × AreSeen visible e.names × AreSeen visible v.names
+IsScoped visible above (member_at at x z e) = IsTargetSeen visible x.target × AreBound visible (z ∷ []) × AreSeen visible e.names
+IsScoped visible above (such_at at xs p) =
+    AreTargetsSeen visible (map (λ (x : Written × Local). x.0) xs)
+    × AreBound visible (map (λ (x : Written × Local). x.1) xs)
+    × AreSeen (seen_with (map (λ (x : Written × Local). x.1) xs) visible) p.names
+IsScoped visible above (call_at at es) = AreTermsSeen visible es
+IsScoped visible above (pre_at at p s) = AreSeen visible p.names × IsScoped visible above s
+IsScoped visible above (assert_at at p s) = AreSeen visible p.names × IsScoped visible above s
+IsScoped visible above (if_at at p s t) = AreSeen visible p.names × IsScoped visible above s × IsScoped visible above t
+IsScoped visible above (guard_at at p s) = AreSeen visible p.names × IsScoped visible above s
+IsScoped visible above (choice_at at s t) = IsScoped visible above s × IsScoped visible above t
+IsScoped visible above (else_at at s t) = IsScoped visible above s × IsScoped visible above t
+IsScoped visible above (branches_at at s) = IsScoped visible above s
+IsScoped visible above (any_at at xs p s) =
+    AreBound visible xs × AreSeen (seen_with xs visible) p.names × IsScoped (seen_with xs visible) above s
+IsScoped visible above (var_at at xs s) = AreBound visible xs × IsScoped (seen_with xs visible) above s
+IsScoped visible above (loop_at at p s i v) =
+    AreSeen visible p.names × IsScoped visible above s
+    × AreSeen (λ n. above n || visible n) i.names × AreSeen (λ n. above n || visible n) v.names
+IsScoped visible above (par_at at s t) = IsScoped visible above s × IsScoped visible above t
+IsScoped visible above (seq_at at s t) = IsScoped visible above s × IsScoped visible above t
+
+-- so it is of every substitution, where the names in scope may be seen and have numbers below the next one
+abbrev pub ScopesAreRight : Type 0
+ScopesAreRight = (visible above : ℕ → Bool) (c : Scope) →
+    AreSeen visible c.names → AreSeen above c.above → IsBelow c.next visible → (s : SubTree) → IsScoped visible above (resolved c s)

@@ -1,0 +1,40 @@
+//! Laws of components, phase by phase. Each is the contract of a function that does nothing.
+
+ghost use Rattle.bk_phases.specs.Laws.{NamesAreBound, NamesHaveSymbols, NamesHaveNextNumbers, StatementsStandRight};
+ghost use Rattle.bk_phases.specs.Laws.{TypesAreSettled, VerdictsAreRight, LimitsAreRight};
+ghost use Rattle.bk_phases.specs.Scoping.{ScopesAreRight};
+ghost use Rattle.bk_phases.specs.Examples.{DevelopmentsAreMade, WordsAreRead, FaultsAreTold, TypesComeInOrder, KindsComeInOrder};
+
+/// Small components, to be checked by hand: the developments that they are, what the words of the notation stand for, which faults are
+/// told, and in which order types come and kinds of faults are asked.
+pub fn examples()
+    ensures made { DevelopmentsAreMade }
+    ensures words { WordsAreRead }
+    ensures faults { FaultsAreTold }
+    ensures types { TypesComeInOrder }
+    ensures kinds { KindsComeInOrder }
+{}
+
+/// What statements bind, and where they may stand.
+pub fn statements()
+    ensures bound { NamesAreBound }
+    ensures symbols { NamesHaveSymbols }
+    ensures numbers { NamesHaveNextNumbers }
+    ensures places { StatementsStandRight }
+{}
+
+/// What the names in scope of a term are.
+pub fn scopes()
+    ensures { ScopesAreRight }
+{}
+
+/// The types that names come to.
+pub fn types()
+    ensures { TypesAreSettled }
+{}
+
+/// What is answered.
+pub fn verdicts()
+    ensures right { VerdictsAreRight }
+    ensures limits { LimitsAreRight }
+{}
