@@ -15,18 +15,18 @@ use Rattle.bk_phases.specs.Resolve.{Scope, declared, inside, after, holds, value
 use Rattle.bk_statics.specs.Settled.{IsSeen, AreSeen, IsBelow}
 use Rattle.bk_phases.specs.Scoping.{IsTargetSeen, AreTargetsSeen, AreTermsSeen, seen_with, AreBound, IsScoped}
 
-or-cases : (a b : Bool) → (a || b) ≡ true → (a ≡ true) ⊎ (b ≡ true)
+pub or-cases : (a b : Bool) → (a || b) ≡ true → (a ≡ true) ⊎ (b ≡ true)
 or-cases true b h = inl refl
 or-cases false b h = inr h
 
-or-left : (a b : Bool) → a ≡ true → (a || b) ≡ true
+pub or-left : (a b : Bool) → a ≡ true → (a || b) ≡ true
 or-left a b h = rw h refl
 
-or-right : (a b : Bool) → b ≡ true → (a || b) ≡ true
+pub or-right : (a b : Bool) → b ≡ true → (a || b) ≡ true
 or-right true b h = refl
 or-right false b h = h
 
-or-false : (a b : Bool) → a ≡ false → b ≡ false → (a || b) ≡ false
+pub or-false : (a b : Bool) → a ≡ false → b ≡ false → (a || b) ≡ false
 or-false a b h k = rw (h, k) refl
 
 -- ---- numbers

@@ -1,13 +1,13 @@
 -- What small components are answered phase by phase, by computation.
 -- Source: this project.
-use Rattle.std.specs.Prelude.{◌≡◌, ◌+ℤ◌, ℕ, suc, pos, [], ◌∷◌, None, Some, replicate}
+use Rattle.std.specs.Prelude.{◌≡◌, ◌+ℤ◌, suc, pos, [], ◌∷◌, None, Some, replicate}
 use Rattle.bk_limits.specs.declared.TheConstants.{MOST_NAMES, MAXINT}
-use Rattle.bk_form.specs.Formula.{variable, literal, element, named, binary, unary}
+use Rattle.bk_form.specs.Formula.{variable, element, named, binary, unary}
 use Rattle.bk_form.specs.declared.operator.UnOp.TheVariants.{Not as Negation}
 use Rattle.bk_form.specs.declared.operator.BinOp.TheVariants.{And as Conjunction, Eq, In}
 use Rattle.bk_form.specs.declared.operator.Domain.TheVariants.{Enum}
 use Rattle.bk_gsl.specs.Substitution.{assign, guard, choice, if_else, any, becomes_such, skip}
-use Rattle.bk_raw.specs.declared.operator.InfixOp.TheVariants.{Equal, Power, Plus, Member}
+use Rattle.bk_raw.specs.declared.operator.InfixOp.TheVariants.{Equal, Power, Plus}
 use Rattle.bk_raw.specs.declared.operator.Constant.TheVariants.{Bool as BoolWord, True as TrueWord}
 use Rattle.bk_raw.specs.declared.component.ClauseWord.TheVariants.{Sets, Constants, Variables, ConcreteVariables, Invariant}
 use Rattle.bk_raw.specs.Trees.RawTree.{RawTree, raw, raw_number, raw_constant, raw_empty_set, raw_level_name, no_trees, tree_and}
@@ -21,11 +21,11 @@ use Rattle.bk_raw.specs.Errors.Faults.{wrong_operation, not_b0, wrong_write, wro
 use Rattle.bk_statics.specs.Verdict.{accepted, at_fault, past_limit}
 use Rattle.bk_statics.specs.Texts.{name_at, term_at, number, infix_at, up_to, is_in, takes, takes_at, clause, operation, component}
 use Rattle.bk_statics.specs.Texts.{counter_text, counter_code_text, counter_made, a_text, b_text, c_text, f_text, s_text, t_text}
-use Rattle.bk_statics.specs.Texts.{u_text, v_text, x_text, step_text, in_set, step_with, machine_of, machine_with, machine_text}
+use Rattle.bk_statics.specs.Texts.{u_text, v_text, x_text, step_text, in_set, machine_of, machine_with, machine_text}
 use Rattle.bk_statics.specs.Texts.{by_local, both_start, refinement_of, step_by, started, with_operations, stepping, refinement_text}
 use Rattle.bk_statics.specs.Texts.{refined, code_with, code_doing, c_is, d_is, filled_at, array_code}
 use Rattle.bk_phases.specs.Texts.{below, first_level, machine_verdict, lower_verdict, step_done, above_code, deferred_verdict}
-use Rattle.bk_phases.specs.Texts.{is_truth, both, typed_machine, two_numbers, stepping_by, standing_by, stepping_with, telling_by}
+use Rattle.bk_phases.specs.Texts.{is_truth, both, typed_machine, stepping_by, standing_by, stepping_with, telling_by}
 use Rattle.bk_phases.specs.Texts.{wrong_twice}
 
 -- v := a and v := b

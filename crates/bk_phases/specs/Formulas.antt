@@ -18,13 +18,14 @@ use Rattle.bk_phases.specs.Types.{Types}
 abbrev pub reading_of : Types → Term → Reading
 reading_of types t = part (wants_predicate t.wanted) t.tree (reading types.max (typed types.of t.names) t.tree)
 
--- the formula of an expression, and its type
+-- the formula without its type
+abbrev pub only_formula : Option (Formula × ValueType) → Option Formula
+only_formula None = None
+only_formula (Some d) = Some d.0
+
+-- the formula of an expression that gives a type, or of a domain
 abbrev pub formula_of : Asked (Formula × ValueType) → Asked Formula
-formula_of a = record { answer = first_part a.answer; faults = a.faults }
-  where
-    first_part : Option (Formula × ValueType) → Option Formula
-    first_part None = None
-    first_part (Some d) = Some d.0
+formula_of a = record { answer = only_formula a.answer; faults = a.faults }
 
 -- an expression where no type is asked: {} takes any, and what is no value has none
 abbrev pub ask_nothing : Outcome → Asked Formula
@@ -35,14 +36,15 @@ abbrev pub ask_like : Option ValueType → ℕ → Outcome → Asked Formula
 ask_like None at o = ask_nothing o
 ask_like (Some t) at o = ask at o t
 
+-- a domain over this type, where there is a domain, and else its faults
+abbrev pub over_type : ValueType → ℕ → Option (Formula × ValueType) → List Fault → Asked Formula
+over_type t at None fs = refused fs
+over_type t at (Some d) fs = cond (same_type t d.1) (answered d.0) (refused (no_type at))
+
 -- a domain over this type, if there is one
 abbrev pub over : Option ValueType → ℕ → Asked (Formula × ValueType) → Asked Formula
 over None at a = formula_of a
-over (Some t) at a = same a.answer
-  where
-    same : Option (Formula × ValueType) → Asked Formula
-    same None = formula_of a
-    same (Some d) = cond (same_type t d.1) (answered d.0) (refused (no_type at))
+over (Some t) at a = over_type t at a.answer a.faults
 
 -- f(e) := v: the type of e, or of v; f is at fault where it is no relation
 abbrev pub ask_part : (ValueType → ValueType → ValueType) → Written → Option ValueType → ℕ → Outcome → Asked Formula

@@ -53,14 +53,15 @@ guards (guard p s) = p ∷ []
 guards (choice s t) = guards s ++ guards t
 guards _ = []
 
--- none of them holds, joined by & to the left
+-- the formula, and none of these holds, joined by & to the left
+abbrev pub and_none_of : Formula → List Formula → Formula
+and_none_of before [] = before
+and_none_of before (q ∷ qs) = and_none_of (binary Conjunction before (unary Negation q)) qs
+
+-- none of them holds
 abbrev pub none_of : List Formula → Formula
 none_of [] = btrue
-none_of (p ∷ ps) = joined (unary Negation p) ps
-  where
-    joined : Formula → List Formula → Formula
-    joined before [] = before
-    joined before (q ∷ qs) = joined (binary Conjunction before (unary Negation q)) qs
+none_of (p ∷ ps) = and_none_of (unary Negation p) ps
 
 -- SELECT's branches, and its ELSE, which is guarded by the negations of their guards
 abbrev pub with_else : Substitution → Substitution → Substitution

@@ -2,16 +2,22 @@
 -- term stands, what is written to may be seen too, and what is bound is new and different.
 -- Source: B Language Reference Manual, visibility.
 use Rattle.std.specs.Prelude.{◌≡◌, ℕ, Bool, true, ◌||◌, List, [], ◌∷◌, map}
+use Rattle.bk_form.specs.Each.{Each}
+use Rattle.bk_form.specs.Table.{Table}
 use Rattle.bk_gsl.specs.State.{among}
-use Rattle.bk_dev.specs.Facts.{AreNew, AreDistinct}
+use Rattle.bk_dev.specs.Facts.{AreNew, AreDistinct, StaysIn}
 use Rattle.bk_raw.specs.Trees.SubTree.{SubTree}
 use Rattle.bk_statics.specs.Typings.{Target, variable_target}
-use Rattle.bk_statics.specs.Settled.{AreSeen, IsBelow}
+use Rattle.bk_statics.specs.Settled.{IsSettled, AreOf, AreSeen, IsBelow}
 use Rattle.bk_phases.specs.Scope.{Local, numbers, Written}
 use Rattle.bk_phases.specs.Term.{Term}
 use Rattle.bk_phases.specs.Statement.{Statement, skip_at, assign_at, update_at, member_at, such_at, call_at, pre_at, assert_at, if_at}
 use Rattle.bk_phases.specs.Statement.{guard_at, choice_at, else_at, branches_at, any_at, var_at, loop_at, par_at, seq_at}
+use Rattle.bk_phases.specs.Statement.{within, own_terms, left_names}
 use Rattle.bk_phases.specs.Resolve.{Scope, resolved}
+use Rattle.bk_phases.specs.Types.{Types}
+use Rattle.bk_phases.specs.Writes.{wrong_write}
+use Rattle.bk_phases.specs.LevelOf.{elaborated}
 
 -- what is written to may be seen
 abbrev pub IsTargetSeen : (ℕ → Bool) → Target → Type 0
@@ -68,3 +74,23 @@ IsScoped visible above (seq_at at s t) = IsScoped visible above s × IsScoped vi
 abbrev pub ScopesAreRight : Type 0
 ScopesAreRight = (visible above : ℕ → Bool) (c : Scope) →
     AreSeen visible c.names → AreSeen above c.above → IsBelow c.next visible → (s : SubTree) → IsScoped visible above (resolved c s)
+
+-- ---- what a substitution names, writes and binds
+-- it is a variable that the test admits
+abbrev pub IsVariableOf : (ℕ → Bool) → Target → Type 0
+IsVariableOf may (variable_target n) = may n ≡ true
+IsVariableOf may _ = ⊥
+
+-- a substitution, but for what stands in it: its terms see sets and elements of the table, and it writes different variables that the
+-- test admits
+pub record IsRightHere (table : Table) (may : ℕ → Bool) (s : Statement) : Type 0 where
+  pub terms : Each (λ (t : Term). AreOf table t.names) (own_terms s)
+  pub left : Each (λ (x : Written). IsVariableOf may x.target) (left_names s)
+  pub writes : wrong_write s ≡ []
+
+-- where what may be seen and is admitted may be written, a substitution whose scopes are right, and in which all is right, names, writes
+-- and binds what it may
+abbrev pub StatementsStay : Type 0
+StatementsStay = (types : Types) (table : Table) → IsSettled table types.of → (visible above writable may : ℕ → Bool) →
+    ((n : ℕ) → visible n ≡ true → may n ≡ true → writable n ≡ true) → (s : Statement) →
+    IsScoped visible above s → Each (IsRightHere table may) (within s) → StaysIn visible above writable (elaborated types s)

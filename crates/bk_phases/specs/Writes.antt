@@ -40,19 +40,21 @@ abbrev pub is_among : List ℕ → Target → Bool
 is_among ns (variable_target n) = among ns n
 is_among ns _ = false
 
+-- the number in front of others, if it is there
+abbrev pub with_number : Option ℕ → List ℕ → List ℕ
+with_number None ns = ns
+with_number (Some n) ns = n ∷ ns
+
 -- the variables of written names
 abbrev pub variables_of : List Written → List ℕ
 variables_of [] = []
 variables_of (x ∷ xs) = with_number (as_number x.target) (variables_of xs)
-  where
-    with_number : Option ℕ → List ℕ → List ℕ
-    with_number None ns = ns
-    with_number (Some n) ns = n ∷ ns
 
--- names that stand twice on the left
+-- names whose variables stand before, on the left
 abbrev pub twice_written : List ℕ → List Written → List ℕ
 twice_written before [] = []
-twice_written before (x ∷ xs) = unless (not (is_among before x.target)) x.name.at ++ twice_written (variables_of (x ∷ []) ++ before) xs
+twice_written before (x ∷ xs) =
+    unless (not (is_among before x.target)) x.name.at ++ twice_written (with_number (as_number x.target) before) xs
 
 -- lists of different length, at the first name
 abbrev pub uneven : List Written → List Term → List ℕ

@@ -2,7 +2,7 @@
 
 ghost use Rattle.bk_phases.specs.Laws.{NamesAreBound, NamesHaveSymbols, NamesHaveNextNumbers, StatementsStandRight};
 ghost use Rattle.bk_phases.specs.Laws.{TypesAreSettled, VerdictsAreRight, LimitsAreRight};
-ghost use Rattle.bk_phases.specs.Scoping.{ScopesAreRight};
+ghost use Rattle.bk_phases.specs.Scoping.{ScopesAreRight, StatementsStay};
 ghost use Rattle.bk_phases.specs.Examples.{DevelopmentsAreMade, WordsAreRead, FaultsAreTold, TypesComeInOrder, KindsComeInOrder};
 
 /// Small components, to be checked by hand: the developments that they are, what the words of the notation stand for, which faults are
@@ -23,9 +23,10 @@ pub fn statements()
     ensures places { StatementsStandRight }
 {}
 
-/// What the names in scope of a term are.
+/// What is in scope of a term, and what a substitution names, writes and binds.
 pub fn scopes()
-    ensures { ScopesAreRight }
+    ensures right { ScopesAreRight }
+    ensures stay { StatementsStay }
 {}
 
 /// The types that names come to.

@@ -1,5 +1,9 @@
 use Rattle.bk_phases.proofs.Scoped.{scopes-right}
+use Rattle.bk_phases.proofs.Stays.{statements-stay}
 use Rattle.bk_phases.proofs.laws.scopes.Goals as goal
 
-pub returns : goal.returns
-returns c = scopes-right
+pub returns-clause-right : goal.returns-clause-right
+returns-clause-right c = scopes-right
+
+pub returns-clause-stay : goal.returns-clause-stay
+returns-clause-stay c = statements-stay
