@@ -1,8 +1,9 @@
 -- The fault that is told is the first.
-use Rattle.std.proofs.Common.{◌≡◌, inl, inr, ℕ, ◌≤◌, List, [], ◌∷◌, refl, sym, subst, Bool, true, false, arith, nat_le}
+use Rattle.std.proofs.Common.{◌≡◌, inl, inr, ℕ, ◌≤◌, List, [], ◌∷◌, refl, sym, ap, subst, Bool, true, false, arith, nat_le}
 use Rattle.std.proofs.lemmas.Bool.Decides.{nat_tests}
 use Rattle.bk_dev.specs.Development.{Development}
 use Rattle.bk_raw.specs.declared.fault.FaultKind.{FaultKind}
+use Rattle.bk_raw.specs.Errors.Faults.{Fault}
 use Rattle.bk_statics.specs.Verdict.{Verdict, accepted, at_fault, past_limit, judged, limited}
 use Rattle.bk_phases.specs.Verdict.{Phase, smallest, first_fault}
 use Rattle.bk_phases.specs.Laws.{HaveNoFault, IsOneOf, NoneIsSmaller, IsFirstFault}
@@ -37,14 +38,16 @@ none-then made [] h = refl
 none-then made ((kind, []) ∷ rest) h = none-then made rest h.1
 none-then made ((kind, p ∷ ps) ∷ rest) h = let e = h.0 in absurd (cc)
 
+same-fault : (f g : Fault) → at_fault f ≡ at_fault g → f ≡ g
+same-fault f g h = cc h
+
 pub fault-then : (made : Development) (kind : FaultKind) (p : ℕ) (ps : List Phase) → judged made (first_fault ps) ≡ at_fault (kind, p) → IsFirstFault kind p ps
 fault-then made kind p [] h = absurd (cc)
 fault-then made kind p ((k, []) ∷ rest) h = fault-then made kind p rest h
 fault-then made kind p ((k, q ∷ qs) ∷ rest) h =
-    let e : kind ≡ k = cc h in
-    let f : smallest q qs ≡ p = cc h in
-    let r = subst (λ n. IsOneOf n (q ∷ qs) × NoneIsSmaller n (q ∷ qs)) f (smallest-right q qs) in
-    (e, r.0, r.1)
+    let e = same-fault (k, smallest q qs) (kind, p) h in
+    let r = subst (λ n. IsOneOf n (q ∷ qs) × NoneIsSmaller n (q ∷ qs)) (ap (λ (f : Fault). f.1) e) (smallest-right q qs) in
+    (sym (ap (λ (f : Fault). f.0) e), r.0, r.1)
 
 pub limit-then : (made : Development) (n : ℕ) (ps : List Phase) → judged made (first_fault ps) ≡ past_limit n → ⊥
 limit-then made n [] h = absurd (cc)
