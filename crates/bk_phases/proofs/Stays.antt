@@ -24,7 +24,7 @@ use Rattle.bk_phases.specs.Formulas.{formula}
 use Rattle.bk_phases.specs.Writes.{is_among, with_number, variables_of, twice_written, uneven, written_by_both}
 use Rattle.bk_phases.specs.LevelOf.{number_for, assignments, old_pairs, overridden, guards, and_none_of, none_of, elaborated}
 use Rattle.bk_phases.specs.Scoping.{IsTargetSeen, AreTargetsSeen, AreTermsSeen, IsScoped, IsVariableOf, IsRightHere}
-use Rattle.bk_phases.proofs.Lists.{flat-join}
+use Rattle.bk_phases.proofs.Lists.{flat-join, each-left, each-right, each-append, each-flat, each-as}
 use Rattle.bk_phases.proofs.Scoped.{or-cases, or-left, or-right, or-false}
 use Rattle.bk_phases.proofs.Named.{formula-names}
 
@@ -32,26 +32,6 @@ nat_eq-then : (m n : ℕ) → nat_eq m n ≡ true → m ≡ n
 nat_eq-then m n h = grind (arith, nat_tests)
 
 -- ---- lists
-each-left : {A : Type 0} (P : A → Type 0) (xs ys : List A) → Each P (xs ++ ys) → Each P xs
-each-left P [] ys h = tt
-each-left P (x ∷ xs) ys h = (h.0, each-left P xs ys h.1)
-
-each-right : {A : Type 0} (P : A → Type 0) (xs ys : List A) → Each P (xs ++ ys) → Each P ys
-each-right P [] ys h = h
-each-right P (x ∷ xs) ys h = each-right P xs ys h.1
-
-each-append : {A : Type 0} (P : A → Type 0) (xs ys : List A) → Each P xs → Each P ys → Each P (xs ++ ys)
-each-append P [] ys h k = k
-each-append P (x ∷ xs) ys h k = (h.0, each-append P xs ys h.1 k)
-
-each-flat : {A B : Type 0} (P : B → Type 0) (f : A → List B) (xs : List A) → Each (λ x. Each P (f x)) xs → Each P (flat_map f xs)
-each-flat P f [] h = tt
-each-flat P f (x ∷ xs) h = each-append P (f x) (flat_map f xs) h.0 (each-flat P f xs h.1)
-
-each-as : {A : Type 0} (P Q : A → Type 0) → ((x : A) → P x → Q x) → (xs : List A) → Each P xs → Each Q xs
-each-as P Q f [] h = tt
-each-as P Q f (x ∷ xs) h = (f x h.0, each-as P Q f xs h.1)
-
 append-left : (xs ys : List ℕ) (m : ℕ) → among xs m ≡ true → among (xs ++ ys) m ≡ true
 append-left [] ys m h = absurd (cc)
 append-left (x ∷ xs) ys m h = elim (or-cases (nat_eq m x) (among xs m) h) [
@@ -358,7 +338,6 @@ module _ (types : Types) (table : Table) (settled : IsSettled table types.of) (a
       let q = r.0 in
       let bound = h.1 in
       let sees : ℕ → Bool = λ n. among (z.number ∷ []) n || visible n in
-      let writes : ℕ → Bool = λ n. among (z.number ∷ []) n || writable n in
       let own = formula-names table types settled visible e q.terms.0 h.2 in
       let domain : NamesOnly sees (formula types e) = record { closed = own.closed; visible_only = λ n o. or-right (among (z.number ∷ []) n) (visible n) (own.visible_only n o) } in
       let element = variable-names sees z.number (or-left (among (z.number ∷ []) z.number) (visible z.number) (self-among z.number [])) in (

@@ -21,6 +21,7 @@ pub mod B0
 pub mod DeclaredNames
 pub mod Verdict
 pub mod Scoping
+pub mod Typed
 pub mod Laws
 pub mod Texts
 pub mod Examples

@@ -3,6 +3,7 @@
 ghost use Rattle.bk_phases.specs.Laws.{NamesAreBound, NamesHaveSymbols, NamesHaveNextNumbers, StatementsStandRight};
 ghost use Rattle.bk_phases.specs.Laws.{TypesAreSettled, VerdictsAreRight, LimitsAreRight};
 ghost use Rattle.bk_phases.specs.Scoping.{ScopesAreRight, StatementsStay};
+ghost use Rattle.bk_phases.specs.Typed.{PlacesAsk, StatementsType};
 ghost use Rattle.bk_phases.specs.Examples.{DevelopmentsAreMade, WordsAreRead, FaultsAreTold, TypesComeInOrder, KindsComeInOrder};
 
 /// Small components, to be checked by hand: the developments that they are, what the words of the notation stand for, which faults are
@@ -29,9 +30,11 @@ pub fn scopes()
     ensures stay { StatementsStay }
 {}
 
-/// The types that names come to.
+/// The types that names come to, and substitutions whose names and terms have types.
 pub fn types()
-    ensures { TypesAreSettled }
+    ensures settled { TypesAreSettled }
+    ensures asks { PlacesAsk }
+    ensures types { StatementsType }
 {}
 
 /// What is answered.

@@ -1,5 +1,13 @@
+use Rattle.bk_phases.proofs.Asking.{places-ask}
 use Rattle.bk_phases.proofs.Settled.{settled}
+use Rattle.bk_phases.proofs.Typed.{statements-type}
 use Rattle.bk_phases.proofs.laws.types.Goals as goal
 
-pub returns : goal.returns
-returns c = settled
+pub returns-clause-settled : goal.returns-clause-settled
+returns-clause-settled c = settled
+
+pub returns-clause-asks : goal.returns-clause-asks
+returns-clause-asks c = λ d s. places-ask s d
+
+pub returns-clause-types : goal.returns-clause-types
+returns-clause-types c = statements-type
