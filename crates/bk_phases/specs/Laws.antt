@@ -3,7 +3,7 @@ use Rattle.std.specs.Prelude.{◌≡◌, ◌⊎◌, ◌≤◌, ℕ, ◌+◌, ℤ
 use Rattle.std.specs.List.{flat_map, slice_get}
 use Rattle.bk_dev.specs.declared.kind.Kind.{Kind}
 use Rattle.bk_dev.specs.Development.{Development}
-use Rattle.bk_dev.specs.Facts.{binders, LoopsStandIn, MayStandIn}
+use Rattle.bk_dev.specs.Facts.{binders, LoopsStandIn, MayStandIn, HomesAreThere}
 use Rattle.bk_raw.specs.declared.fault.FaultKind.{FaultKind}
 use Rattle.bk_raw.specs.Trees.SubTree.{SubTree}
 use Rattle.bk_raw.specs.Trees.ComponentTree.{RawComponent}
@@ -48,6 +48,18 @@ StatementsStandRight = (kind : Kind) (types : Types) (s : Statement) →
 abbrev pub TypesAreSettled : Type 0
 TypesAreSettled = (max : ℤ) (r : Resolved) (i : ℕ) (s : Symbol) → slice_get r.symbols i ≡ Some s
     → (types_of max r).of (length r.above.table.variables + i) ≡ None → given (types_of max r) s.source ≡ None
+
+-- ---- the development
+-- with the level the table has an entry for each symbol, each variable has a home, and each home is at a level that is there
+pub record LevelGrows (types : Types) (r : Resolved) : Type 0 where
+  pub entries : length (with_level types r).table.variables ≡ length r.above.table.variables + length r.symbols
+  pub homes : length r.above.homes ≡ length r.above.table.variables →
+      length (with_level types r).homes ≡ length (with_level types r).table.variables
+  pub stay : HomesAreThere r.above → HomesAreThere (with_level types r)
+
+-- faults or not
+abbrev pub LevelsGrow : Type 0
+LevelsGrow = (types : Types) (r : Resolved) → LevelGrows types r
 
 -- ---- the answer
 -- no phase has a fault

@@ -1,7 +1,7 @@
 //! Laws of components, phase by phase. Each is the contract of a function that does nothing.
 
 ghost use Rattle.bk_phases.specs.Laws.{NamesAreBound, NamesHaveSymbols, NamesHaveNextNumbers, StatementsStandRight};
-ghost use Rattle.bk_phases.specs.Laws.{TypesAreSettled, VerdictsAreRight, LimitsAreRight};
+ghost use Rattle.bk_phases.specs.Laws.{TypesAreSettled, LevelsGrow, VerdictsAreRight, LimitsAreRight};
 ghost use Rattle.bk_phases.specs.Scoping.{ScopesAreRight, StatementsStay};
 ghost use Rattle.bk_phases.specs.Typed.{PlacesAsk, StatementsType};
 ghost use Rattle.bk_phases.specs.Examples.{DevelopmentsAreMade, WordsAreRead, FaultsAreTold, TypesComeInOrder, KindsComeInOrder};
@@ -35,6 +35,11 @@ pub fn types()
     ensures settled { TypesAreSettled }
     ensures asks { PlacesAsk }
     ensures types { StatementsType }
+{}
+
+/// What a development has of a level more.
+pub fn levels()
+    ensures { LevelsGrow }
 {}
 
 /// What is answered.
