@@ -1,15 +1,15 @@
 -- With a level more, each symbol has an entry in the table and a home at a level that is there.
-use Rattle.std.proofs.Common.{◌≡◌, ℕ, zero, suc, ◌+◌, ◌<◌, List, [], ◌∷◌, ◌++◌, length, map, refl, sym, ◌∙◌, ap, subst, Bool, true, false, length-append, arith}
+use Rattle.std.proofs.Common.{◌≡◌, ℕ, zero, suc, ◌+◌, List, [], ◌∷◌, ◌++◌, length, map, refl, sym, ◌∙◌, ap, subst, true, false, length-append, arith}
 use Rattle.std.specs.Prelude.{Option, None, Some, slice_get}
 use Rattle.std.proofs.lemmas.List.{length-map}
 use Rattle.bk_dev.specs.declared.kind.Home.{Home}
 use Rattle.bk_dev.specs.declared.kind.Home.TheVariants.{Constant, Input, Abstract, Concrete, Inner}
-use Rattle.bk_dev.specs.Facts.{StandsBelow, HomesAreThere}
+use Rattle.bk_dev.specs.Facts.{StandsBelow}
 use Rattle.bk_statics.specs.Typings.{Typing}
 use Rattle.bk_phases.specs.Symbols.{Role, a_constant, a_level_variable, an_input, an_output, a_local, an_inner_value, Symbol}
 use Rattle.bk_phases.specs.Resolved.{Resolved}
 use Rattle.bk_phases.specs.Types.{Types}
-use Rattle.bk_phases.specs.LevelOf.{home_at, table_entries, level_of, with_level}
+use Rattle.bk_phases.specs.LevelOf.{home_at, table_entries, level_of}
 use Rattle.bk_phases.specs.Laws.{LevelGrows}
 
 entries-count : (typing : Typing) (k n : ℕ) (ss : List Symbol) → length (table_entries typing k n ss) ≡ length ss

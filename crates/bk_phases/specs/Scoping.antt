@@ -75,6 +75,15 @@ abbrev pub ScopesAreRight : Type 0
 ScopesAreRight = (visible above : ℕ → Bool) (c : Scope) →
     AreSeen visible c.names → AreSeen above c.above → IsBelow c.next visible → (s : SubTree) → IsScoped visible above (resolved c s)
 
+-- the scopes of a substitution's own terms have only sets and elements of the table
+abbrev pub SeesListed : Table → Statement → Type 0
+SeesListed table s = Each (λ (t : Term). AreOf table t.names) (own_terms s)
+
+-- so it is of every substitution and of all that stand in it, where the names in scope are such
+abbrev pub ScopesAreListed : Type 0
+ScopesAreListed = (table : Table) (c : Scope) → AreOf table c.names → AreOf table c.above → (s : SubTree) →
+    Each (SeesListed table) (within (resolved c s))
+
 -- ---- what a substitution names, writes and binds
 -- it is a variable that the test admits
 abbrev pub IsVariableOf : (ℕ → Bool) → Target → Type 0
@@ -84,7 +93,7 @@ IsVariableOf may _ = ⊥
 -- a substitution, but for what stands in it: its terms see sets and elements of the table, and it writes different variables that the
 -- test admits
 pub record IsRightHere (table : Table) (may : ℕ → Bool) (s : Statement) : Type 0 where
-  pub terms : Each (λ (t : Term). AreOf table t.names) (own_terms s)
+  pub terms : SeesListed table s
   pub left : Each (λ (x : Written). IsVariableOf may x.target) (left_names s)
   pub writes : wrong_write s ≡ []
 

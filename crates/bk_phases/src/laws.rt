@@ -2,7 +2,7 @@
 
 ghost use Rattle.bk_phases.specs.Laws.{NamesAreBound, NamesHaveSymbols, NamesHaveNextNumbers, StatementsStandRight};
 ghost use Rattle.bk_phases.specs.Laws.{TypesAreSettled, LevelsGrow, VerdictsAreRight, LimitsAreRight};
-ghost use Rattle.bk_phases.specs.Scoping.{ScopesAreRight, StatementsStay};
+ghost use Rattle.bk_phases.specs.Scoping.{ScopesAreRight, ScopesAreListed, StatementsStay};
 ghost use Rattle.bk_phases.specs.Typed.{PlacesAsk, StatementsType};
 ghost use Rattle.bk_phases.specs.Examples.{DevelopmentsAreMade, WordsAreRead, FaultsAreTold, TypesComeInOrder, KindsComeInOrder};
 
@@ -27,6 +27,7 @@ pub fn statements()
 /// What is in scope of a term, and what a substitution names, writes and binds.
 pub fn scopes()
     ensures right { ScopesAreRight }
+    ensures listed { ScopesAreListed }
     ensures stay { StatementsStay }
 {}
 
