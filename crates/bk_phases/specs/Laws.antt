@@ -1,6 +1,8 @@
 -- What is shown of substitutions whose names are resolved.
 use Rattle.std.specs.Prelude.{◌≡◌, ◌⊎◌, ◌≤◌, ℕ, ◌+◌, ℤ, true, false, List, [], ◌∷◌, length, Option, None, Some}
 use Rattle.std.specs.List.{flat_map, slice_get}
+use Rattle.bk_form.specs.Each.{Each}
+use Rattle.bk_form.specs.Table.{Table}
 use Rattle.bk_dev.specs.declared.kind.Kind.{Kind}
 use Rattle.bk_dev.specs.Development.{Development}
 use Rattle.bk_dev.specs.Facts.{binders, LoopsStandIn, MayStandIn, HomesAreThere}
@@ -9,13 +11,15 @@ use Rattle.bk_raw.specs.Trees.SubTree.{SubTree}
 use Rattle.bk_raw.specs.Trees.ComponentTree.{RawComponent}
 use Rattle.bk_statics.specs.Components.{component_of}
 use Rattle.bk_statics.specs.Above.{above_of}
+use Rattle.bk_statics.specs.Settled.{AreOf}
+use Rattle.bk_statics.specs.Sources.{AreTold}
 use Rattle.bk_statics.specs.Verdict.{accepted, at_fault, past_limit}
 use Rattle.bk_phases.specs.Scope.{numbers}
 use Rattle.bk_phases.specs.Statement.{Statement, within, locals_of}
 use Rattle.bk_phases.specs.Resolve.{Scope, resolved}
-use Rattle.bk_phases.specs.Symbols.{Symbol, symbols_of}
+use Rattle.bk_phases.specs.Symbols.{Source, from_value, from_domain, from_conjunct, Symbol, symbols_of}
 use Rattle.bk_phases.specs.Resolved.{Resolved, resolved_component}
-use Rattle.bk_phases.specs.Types.{Types, given, types_of}
+use Rattle.bk_phases.specs.Types.{Types, given, round, repeated, types_of}
 use Rattle.bk_phases.specs.Operations.{misplaced}
 use Rattle.bk_phases.specs.LevelOf.{numbers_from, elaborated, with_level}
 use Rattle.bk_phases.specs.DeclaredNames.{declares_too_many}
@@ -48,6 +52,18 @@ StatementsStandRight = (kind : Kind) (types : Types) (s : Statement) →
 abbrev pub TypesAreSettled : Type 0
 TypesAreSettled = (max : ℤ) (r : Resolved) (i : ℕ) (s : Symbol) → slice_get r.symbols i ≡ Some s
     → (types_of max r).of (length r.above.table.variables + i) ≡ None → given (types_of max r) s.source ≡ None
+
+-- the sets and elements in a source's scope are those of the table
+abbrev pub IsSourceOf : Table → Source → Type 0
+IsSourceOf table (from_value e) = AreOf table e.names
+IsSourceOf table (from_domain e) = AreOf table e.names
+IsSourceOf table (from_conjunct xs x p) = AreOf table p.names
+IsSourceOf table _ = Unit {0}
+
+-- numbers with types are below a bound, and the types have only sets of the table: this stays so in all rounds
+abbrev pub RoundsAreListed : Type 0
+RoundsAreListed = (table : Table) (top n c : ℕ) (ss : List Symbol) (types : Types) → Each (λ (s : Symbol). IsSourceOf table s.source) ss →
+    n + length ss ≤ top → AreTold table top types.of → AreTold table top (repeated c (round n ss) types).of
 
 -- ---- the development
 -- with the level the table has an entry for each symbol, each variable has a home, and each home is at a level that is there
