@@ -1,8 +1,9 @@
 -- What is shown of substitutions whose names are resolved.
 use Rattle.std.specs.Prelude.{◌≡◌, ◌⊎◌, ◌≤◌, ℕ, ◌+◌, ℤ, true, false, List, [], ◌∷◌, length, Option, None, Some}
 use Rattle.std.specs.List.{flat_map, slice_get}
+use Rattle.bk_val.specs.ValueType.{ValueType}
 use Rattle.bk_form.specs.Each.{Each}
-use Rattle.bk_form.specs.Table.{Table}
+use Rattle.bk_form.specs.Table.{Table, lists_type}
 use Rattle.bk_dev.specs.declared.kind.Kind.{Kind}
 use Rattle.bk_dev.specs.Development.{Development}
 use Rattle.bk_dev.specs.Facts.{binders, LoopsStandIn, MayStandIn, HomesAreThere}
@@ -10,8 +11,8 @@ use Rattle.bk_raw.specs.declared.fault.FaultKind.{FaultKind}
 use Rattle.bk_raw.specs.Trees.SubTree.{SubTree}
 use Rattle.bk_raw.specs.Trees.ComponentTree.{RawComponent}
 use Rattle.bk_statics.specs.Components.{component_of}
-use Rattle.bk_statics.specs.Above.{above_of}
-use Rattle.bk_statics.specs.Settled.{AreOf}
+use Rattle.bk_statics.specs.Above.{above_of, known}
+use Rattle.bk_statics.specs.Settled.{IsSettled, AreOf}
 use Rattle.bk_statics.specs.Sources.{AreTold}
 use Rattle.bk_statics.specs.Verdict.{accepted, at_fault, past_limit}
 use Rattle.bk_phases.specs.Scope.{numbers}
@@ -21,7 +22,7 @@ use Rattle.bk_phases.specs.Symbols.{Source, from_value, from_domain, from_conjun
 use Rattle.bk_phases.specs.Resolved.{Resolved, resolved_component}
 use Rattle.bk_phases.specs.Types.{Types, given, round, repeated, types_of}
 use Rattle.bk_phases.specs.Operations.{misplaced}
-use Rattle.bk_phases.specs.LevelOf.{numbers_from, elaborated, with_level}
+use Rattle.bk_phases.specs.LevelOf.{numbers_from, elaborated, table_with, with_level}
 use Rattle.bk_phases.specs.DeclaredNames.{declares_too_many}
 use Rattle.bk_phases.specs.Verdict.{Phase, phases, verdict, verdict_of}
 
@@ -64,6 +65,14 @@ IsSourceOf table _ = Unit {0}
 abbrev pub RoundsAreListed : Type 0
 RoundsAreListed = (table : Table) (top n c : ℕ) (ss : List Symbol) (types : Types) → Each (λ (s : Symbol). IsSourceOf table s.source) ss →
     n + length ss ≤ top → AreTold table top types.of → AreTold table top (repeated c (round n ss) types).of
+
+-- the types that names have come to are those of the table with the level, where the types above and the scopes of all sources have only
+-- sets of that table
+abbrev pub TypesStand : Type 0
+TypesStand = (max : ℤ) (r : Resolved) →
+    ((n : ℕ) (t : ValueType) → known r.above n ≡ Some t → lists_type (table_with (types_of max r) r) t ≡ true) →
+    Each (λ (s : Symbol). IsSourceOf (table_with (types_of max r) r) s.source) r.symbols →
+    IsSettled (table_with (types_of max r) r) (types_of max r).of
 
 -- ---- the development
 -- with the level the table has an entry for each symbol, each variable has a home, and each home is at a level that is there

@@ -1,7 +1,7 @@
 //! Laws of components, phase by phase. Each is the contract of a function that does nothing.
 
 ghost use Rattle.bk_phases.specs.Laws.{NamesAreBound, NamesHaveSymbols, NamesHaveNextNumbers, StatementsStandRight};
-ghost use Rattle.bk_phases.specs.Laws.{TypesAreSettled, RoundsAreListed, LevelsGrow, VerdictsAreRight, LimitsAreRight};
+ghost use Rattle.bk_phases.specs.Laws.{TypesAreSettled, RoundsAreListed, TypesStand, LevelsGrow, VerdictsAreRight, LimitsAreRight};
 ghost use Rattle.bk_phases.specs.Scoping.{ScopesAreRight, ScopesAreListed, StatementsStay};
 ghost use Rattle.bk_phases.specs.Typed.{PlacesAsk, StatementsType};
 ghost use Rattle.bk_phases.specs.Examples.{DevelopmentsAreMade, WordsAreRead, FaultsAreTold, TypesComeInOrder, KindsComeInOrder};
@@ -35,6 +35,7 @@ pub fn scopes()
 pub fn types()
     ensures settled { TypesAreSettled }
     ensures listed { RoundsAreListed }
+    ensures stand { TypesStand }
     ensures asks { PlacesAsk }
     ensures types { StatementsType }
 {}

@@ -60,7 +60,7 @@ pub struct Resolved<'a> {
 }
 
 /// The component below these levels, with its names resolved.
-pub fn resolved<'a>(
+pub fn resolve<'a>(
     alloc: Global,
     above: Above<'a>,
     component: &'a Component<'a>,
