@@ -1,16 +1,16 @@
 -- What is shown of substitutions whose names are resolved.
-use Rattle.std.specs.Prelude.{◌≡◌, ◌⊎◌, ◌≤◌, ℕ, ◌+◌, ℤ, true, false, List, [], ◌∷◌, length, Option, None, Some}
+use Rattle.std.specs.Prelude.{◌≡◌, ◌⊎◌, ◌≤◌, ℕ, ◌+◌, ℤ, Bool, true, false, List, [], ◌∷◌, length, map, Option, None, Some}
 use Rattle.std.specs.List.{flat_map, slice_get}
 use Rattle.bk_val.specs.ValueType.{ValueType}
 use Rattle.bk_form.specs.Each.{Each}
 use Rattle.bk_form.specs.Table.{Table, lists_type}
 use Rattle.bk_dev.specs.declared.kind.Kind.{Kind}
-use Rattle.bk_dev.specs.Development.{Development}
+use Rattle.bk_dev.specs.Development.{Head, Development}
 use Rattle.bk_dev.specs.Facts.{binders, LoopsStandIn, MayStandIn, HomesAreThere}
 use Rattle.bk_raw.specs.declared.fault.FaultKind.{FaultKind}
 use Rattle.bk_raw.specs.Trees.SubTree.{SubTree}
 use Rattle.bk_raw.specs.Trees.ComponentTree.{RawComponent}
-use Rattle.bk_statics.specs.Components.{component_of}
+use Rattle.bk_statics.specs.Components.{Component, component_of, operation_names}
 use Rattle.bk_statics.specs.Above.{above_of, known}
 use Rattle.bk_statics.specs.Settled.{IsSettled, AreOf}
 use Rattle.bk_statics.specs.Sources.{AreTold}
@@ -19,9 +19,10 @@ use Rattle.bk_phases.specs.Scope.{numbers}
 use Rattle.bk_phases.specs.Statement.{Statement, within, locals_of}
 use Rattle.bk_phases.specs.Resolve.{Scope, resolved}
 use Rattle.bk_phases.specs.Symbols.{Source, from_value, from_domain, from_conjunct, Symbol, symbols_of}
-use Rattle.bk_phases.specs.Resolved.{Resolved, resolved_component}
+use Rattle.bk_phases.specs.Resolved.{Operation, in_order, resolved_operations, Resolved, resolved_component}
+use Rattle.bk_phases.specs.TwiceNamed.{twice_among}
 use Rattle.bk_phases.specs.Types.{Types, given, round, repeated, types_of}
-use Rattle.bk_phases.specs.Operations.{misplaced}
+use Rattle.bk_phases.specs.Operations.{misplaced, other_headers}
 use Rattle.bk_phases.specs.LevelOf.{numbers_from, elaborated, table_with, with_level}
 use Rattle.bk_phases.specs.DeclaredNames.{declares_too_many}
 use Rattle.bk_phases.specs.Verdict.{Phase, phases, verdict, verdict_of}
@@ -73,6 +74,14 @@ TypesStand = (max : ℤ) (r : Resolved) →
     ((n : ℕ) (t : ValueType) → known r.above n ≡ Some t → lists_type (table_with (types_of max r) r) t ≡ true) →
     Each (λ (s : Symbol). IsSourceOf (table_with (types_of max r) r) s.source) r.symbols →
     IsSettled (table_with (types_of max r) r) (types_of max r).of
+
+-- ---- operations
+-- below the machine, where operations have different names and headers are the machine's, the operations are the machine's in its order
+abbrev pub OperationsAreHeaded : Type 0
+OperationsAreHeaded = (dev : Development) (at_machine : Bool) (s : Scope) (c : Component) →
+    twice_among [] (operation_names c.operations) ≡ [] → other_headers false dev c ≡ [] →
+    map (λ (o : Operation). o.written.name.text) (resolved_operations dev at_machine s (in_order dev.heads c.operations))
+    ≡ map (λ (h : Head). h.name) dev.heads
 
 -- ---- the development
 -- with the level the table has an entry for each symbol, each variable has a home, and each home is at a level that is there

@@ -46,7 +46,8 @@ same_texts _ _ = false
 abbrev pub is_header : Development → RawOperation → Bool
 is_header dev o =
     let h = machine_header dev 0 dev.heads o.name.text in
-    is_headed dev.heads o.name.text && same_texts (texts_of h.inputs) (texts o.inputs) && same_texts (texts_of h.outputs) (texts o.outputs)
+    is_headed dev.heads o.name.text
+    && (same_texts (texts_of h.inputs) (texts o.inputs) && same_texts (texts_of h.outputs) (texts o.outputs))
 
 -- the machine's operations that the component lacks
 abbrev pub missing : Development → Component → List Head

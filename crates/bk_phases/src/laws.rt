@@ -1,6 +1,7 @@
 //! Laws of components, phase by phase. Each is the contract of a function that does nothing.
 
 ghost use Rattle.bk_phases.specs.Laws.{NamesAreBound, NamesHaveSymbols, NamesHaveNextNumbers, StatementsStandRight};
+ghost use Rattle.bk_phases.specs.Laws.{OperationsAreHeaded};
 ghost use Rattle.bk_phases.specs.Laws.{TypesAreSettled, RoundsAreListed, TypesStand, LevelsGrow, VerdictsAreRight, LimitsAreRight};
 ghost use Rattle.bk_phases.specs.Scoping.{ScopesAreRight, ScopesAreListed, StatementsStay};
 ghost use Rattle.bk_phases.specs.Typed.{PlacesAsk, StatementsType};
@@ -16,12 +17,13 @@ pub fn examples()
     ensures kinds { KindsComeInOrder }
 {}
 
-/// What statements bind, and where they may stand.
+/// What statements bind, where they may stand, and which operations there are.
 pub fn statements()
     ensures bound { NamesAreBound }
     ensures symbols { NamesHaveSymbols }
     ensures numbers { NamesHaveNextNumbers }
     ensures places { StatementsStandRight }
+    ensures headed { OperationsAreHeaded }
 {}
 
 /// What is in scope of a term, and what a substitution names, writes and binds.

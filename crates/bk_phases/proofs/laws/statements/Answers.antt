@@ -1,4 +1,5 @@
 use Rattle.bk_phases.proofs.Names.{binds, have-symbols, next-numbers}
+use Rattle.bk_phases.proofs.Headed.{are-headed}
 use Rattle.bk_phases.proofs.Places.{stands}
 use Rattle.bk_phases.proofs.laws.statements.Goals as goal
 
@@ -13,3 +14,6 @@ returns-clause-numbers c = λ d s. next-numbers s d
 
 pub returns-clause-places : goal.returns-clause-places
 returns-clause-places c = stands
+
+pub returns-clause-headed : goal.returns-clause-headed
+returns-clause-headed c = are-headed
