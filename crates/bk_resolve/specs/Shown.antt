@@ -9,11 +9,16 @@ use Rattle.bk_elab_terms.specs.declared.sight.Standing.{Standing}
 use Rattle.bk_statics.specs.Typings.{Target as Meant, unknown, no_variable, variable_target}
 use Rattle.bk_scope.specs.Shown.{above_shown, component_shown}
 use Rattle.bk_phases.specs.Scope.{Written as WrittenMeant, Local as LocalMeant}
-use Rattle.bk_phases.specs.Term.{Wanted as WantedMeant, a_predicate, a_value, a_number, value_for, domain_for, index_for, element_for, Term as TermMeant}
+use Rattle.bk_phases.specs.Term.{Wanted as WantedMeant, a_predicate, a_value, a_number, value_for}
+use Rattle.bk_phases.specs.Term.{domain_for, index_for, element_for, Term as TermMeant}
 use Rattle.bk_phases.specs.Resolve.{old_name}
-use Rattle.bk_phases.specs.Symbols.{Source as SourceMeant, no_source, from_value, from_domain, from_conjunct, from_name, Role as RoleMeant, a_constant, a_level_variable, an_input, an_output, a_local, an_inner_value, Symbol as SymbolMeant}
-use Rattle.bk_phases.specs.Resolved.{LevelVariable as VariableMeant, Operation as OperationMeant, Entry as EntryMeant, Resolved as ResolvedMeant}
-use Rattle.bk_resolve.specs.Flat.{Shape as ShapeMeant, skips, assigns, updates, takes_member, becomes, calls, has_precondition, asserts, branches_on, is_guarded, chooses, chooses_else, is_choice, binds_where, binds, loops, runs_beside, runs_after, Flat, flat}
+use Rattle.bk_phases.specs.Symbols.{Source as SourceMeant, no_source, from_value, from_domain, from_conjunct, from_name, Role as RoleMeant}
+use Rattle.bk_phases.specs.Symbols.{a_constant, a_level_variable, an_input, an_output, a_local, an_inner_value, Symbol as SymbolMeant}
+use Rattle.bk_phases.specs.Resolved.{LevelVariable as VariableMeant, Operation as OperationMeant}
+use Rattle.bk_phases.specs.Resolved.{Entry as EntryMeant, Resolved as ResolvedMeant}
+use Rattle.bk_resolve.specs.Flat.{Shape as ShapeMeant, skips, assigns, updates, takes_member, becomes, calls}
+use Rattle.bk_resolve.specs.Flat.{has_precondition, asserts, branches_on, is_guarded, chooses, chooses_else, is_choice}
+use Rattle.bk_resolve.specs.Flat.{binds_where, binds, loops, runs_beside, runs_after, Flat, flat}
 use Rattle.bk_resolve.specs.declared.scopes.Entry.{Entry}
 use Rattle.bk_resolve.specs.declared.scopes.Scopes.{Scopes}
 use Rattle.bk_resolve.specs.declared.scopes.Target.{Target}
@@ -24,7 +29,8 @@ use Rattle.bk_resolve.specs.declared.statement.Wanted.{Wanted}
 use Rattle.bk_resolve.specs.declared.statement.Wanted.TheVariants.{Predicate, Value, Number, ValueFor, DomainFor, IndexFor, ElementFor}
 use Rattle.bk_resolve.specs.declared.statement.Term.{Term}
 use Rattle.bk_resolve.specs.declared.statement.Shape.{Shape}
-use Rattle.bk_resolve.specs.declared.statement.Shape.TheVariants.{Skip, Assign, Update, Member, Such, Call, Pre, Assert, If, Guard, Choice, Else, Branches, Any, Var, Loop, Parallel, Sequence}
+use Rattle.bk_resolve.specs.declared.statement.Shape.TheVariants.{Skip, Assign, Update, Member, Such, Call, Pre, Assert, If}
+use Rattle.bk_resolve.specs.declared.statement.Shape.TheVariants.{Guard, Choice, Else, Branches, Any, Var, Loop, Parallel, Sequence}
 use Rattle.bk_resolve.specs.declared.statement.Statement.{Statement}
 use Rattle.bk_resolve.specs.declared.symbol.Source.{Source}
 use Rattle.bk_resolve.specs.declared.symbol.Source.TheVariants.{None as NoSource, Value as FromValue, Domain as FromDomain, Conjunct, Name}

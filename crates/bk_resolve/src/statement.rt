@@ -1,5 +1,5 @@
-// Substitutions whose names are resolved, as lists: a substitution, and then all that stand in it, in the order of the text. So each rule is a
-// loop over a slice.
+// Substitutions whose names are resolved, as lists: a substitution, and then all that stand in it, in the order of the text. So
+// each rule is a loop over a slice.
 
 use crate::scopes::{ScopeId, Target};
 use bk_raw::{RawName, RawTerm};
