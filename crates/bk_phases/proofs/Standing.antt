@@ -60,8 +60,8 @@ module _ (max : ℤ) (r : Resolved) where
         types = λ n t e. split-at (variable_type table n ≡ Some t) n base
             (λ h. variable-entry table n ∙ (ap of_entry (get-left dev.table.variables entries n h) ∙ (sym (variable-entry dev.table n) ∙ (sym (low-repeated size n base r.symbols first h) ∙ e))))
             (λ h. let top = told.below n t e in
-              let back : base + (n - base) ≡ n = omega (arith, h) in
-              variable-entry table n ∙ (ap of_entry (get-right dev.table.variables entries n h) ∙ (entry-of types.of (length dev.levels) base r.symbols (n - base) (omega (arith, top, h)) ∙ (ap (λ m. Some (or_bool (types.of m))) back ∙ ap (λ o. Some (or_bool o)) e))));
+            let back : base + (n - base) ≡ n = omega (arith, h) in
+            variable-entry table n ∙ (ap of_entry (get-right dev.table.variables entries n h) ∙ (entry-of types.of (length dev.levels) base r.symbols (n - base) (omega (arith, top, h)) ∙ (ap (λ m. Some (or_bool (types.of m))) back ∙ ap (λ o. Some (or_bool o)) e))));
         listed = told.listed;
       }
 
