@@ -37,5 +37,4 @@ without_elements s = nat_eq (length s.elements) 0
 abbrev pub without_type : Types → Resolved → List ℕ
 without_type types r =
     map (λ (s : RawSet). s.name.at) (filter without_elements r.component.sets)
-    ++ untyped_symbols types.of (length r.above.table.variables) r.symbols
-    ++ flat_map (untyped_in types) (terms r)
+    ++ (untyped_symbols types.of (length r.above.table.variables) r.symbols ++ flat_map (untyped_in types) (terms r))

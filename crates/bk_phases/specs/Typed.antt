@@ -16,7 +16,12 @@ use Rattle.bk_phases.specs.Statement.{loop_at, within, own_terms, left_names, bi
 use Rattle.bk_phases.specs.Resolve.{Scope, resolved}
 use Rattle.bk_phases.specs.Types.{Types}
 use Rattle.bk_phases.specs.Formulas.{untyped_in}
+use Rattle.bk_phases.specs.Resolved.{Resolved}
+use Rattle.bk_phases.specs.Parts.{statements, terms}
+use Rattle.bk_phases.specs.NoType.{without_type}
+use Rattle.bk_phases.specs.Writes.{is_writable, wrong_write, wrong_writes}
 use Rattle.bk_phases.specs.LevelOf.{elaborated}
+use Rattle.bk_phases.specs.Scoping.{IsVariableOf}
 
 -- ---- what places ask
 -- of x, y := E, F: each term for its variable
@@ -75,3 +80,14 @@ pub record IsTypedHere (types : Types) (table : Table) (s : Statement) : Type 0 
 abbrev pub StatementsType : Type 0
 StatementsType = (types : Types) (table : Table) → IsSettled table types.of → (s : Statement) →
     Each AsksRight (within s) → Each (IsTypedHere types table) (within s) → TypesIn table (elaborated types s)
+
+-- ---- what no fault says
+-- a substitution, but for what stands in it, writes different variables that may be written
+pub record IsRightWritten (r : Resolved) (s : Statement) : Type 0 where
+  pub left : Each (λ (x : Written). IsVariableOf (is_writable r) x.target) (left_names s)
+  pub writes : wrong_write s ≡ []
+
+-- where no phase has found a fault of writes, or of types, so it is of all substitutions, and all terms have types
+pub record PhasesFoundNone : Type 0 where
+  pub writes : (r : Resolved) → wrong_writes r ≡ [] → Each (IsRightWritten r) (statements r)
+  pub types : (types : Types) (r : Resolved) → without_type types r ≡ [] → Each (λ (t : Term). untyped_in types t ≡ []) (terms r)

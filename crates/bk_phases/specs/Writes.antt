@@ -27,13 +27,14 @@ is_writable_symbol (Some s) = is_writable_role s.role
 abbrev pub is_writable : Resolved → ℕ → Bool
 is_writable r n = let base = length r.above.table.variables in not (nat_lt n base) && is_writable_symbol (slice_get r.symbols (n - base))
 
+-- whether it is a variable that may be written
+abbrev pub may_write : Resolved → Target → Bool
+may_write r (variable_target n) = is_writable r n
+may_write r _ = false
+
 -- a name of something that may not be written
 abbrev pub unwritable : Resolved → Written → List ℕ
-unwritable r x = cond (may_write x.target) [] (x.name.at ∷ [])
-  where
-    may_write : Target → Bool
-    may_write (variable_target n) = is_writable r n
-    may_write _ = false
+unwritable r x = unless (may_write r x.target) x.name.at
 
 -- whether the target is one of these variables
 abbrev pub is_among : List ℕ → Target → Bool

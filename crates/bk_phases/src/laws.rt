@@ -4,7 +4,7 @@ ghost use Rattle.bk_phases.specs.Laws.{NamesAreBound, NamesHaveSymbols, NamesHav
 ghost use Rattle.bk_phases.specs.Laws.{OperationsAreHeaded};
 ghost use Rattle.bk_phases.specs.Laws.{TypesAreSettled, RoundsAreListed, TypesStand, LevelsGrow, VerdictsAreRight, LimitsAreRight};
 ghost use Rattle.bk_phases.specs.Scoping.{ScopesAreRight, ScopesAreListed, StatementsStay};
-ghost use Rattle.bk_phases.specs.Typed.{PlacesAsk, StatementsType};
+ghost use Rattle.bk_phases.specs.Typed.{PlacesAsk, StatementsType, PhasesFoundNone};
 ghost use Rattle.bk_phases.specs.Examples.{DevelopmentsAreMade, WordsAreRead, FaultsAreTold, TypesComeInOrder, KindsComeInOrder};
 
 /// Small components, to be checked by hand: the developments that they are, what the words of the notation stand for, which faults are
@@ -47,8 +47,9 @@ pub fn levels()
     ensures { LevelsGrow }
 {}
 
-/// What is answered.
+/// What is answered, and what the answer says.
 pub fn verdicts()
     ensures right { VerdictsAreRight }
+    ensures none { PhasesFoundNone }
     ensures limits { LimitsAreRight }
 {}

@@ -5,6 +5,7 @@ use Rattle.bk_phases.specs.LevelOf.{with_level}
 use Rattle.bk_phases.specs.Resolved.{resolved_component}
 use Rattle.bk_phases.specs.Types.{types_of}
 use Rattle.bk_phases.specs.Verdict.{phases, verdict}
+use Rattle.bk_phases.proofs.Faultless.{writes-right, types-right}
 use Rattle.bk_phases.proofs.Verdicts.{right-then, none-then, fault-then, limit-then, past-then, within-then}
 use Rattle.bk_phases.proofs.laws.verdicts.Goals as goal
 
@@ -15,6 +16,9 @@ returns-clause-right c = record {
   fault = λ max r kind p h. fault-then (with_level (types_of max r) r) kind p (phases (types_of max r) r) h;
   limit = λ max r n h. limit-then (with_level (types_of max r) r) n (phases (types_of max r) r) h;
 }
+
+pub returns-clause-none : goal.returns-clause-none
+returns-clause-none c = record { writes = writes-right; types = types-right }
 
 pub returns-clause-limits : goal.returns-clause-limits
 returns-clause-limits c = record {
