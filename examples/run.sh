@@ -16,7 +16,7 @@ build() {
     local status
     log=$(mktemp) || exit 1
     trap 'rm -f "$log"' EXIT
-    echo "bkit is not built yet. Its libraries are proved first, as many at a time as there are processors; on four that takes an hour." >&2
+    echo "bkit is not built yet. Its libraries are proved first, as many at a time as there are processors; on four that takes some 65 minutes." >&2
     "$top/.ci/libraries" || exit
     echo "proving bkit itself" >&2
     # the program is also run, without words, so that its status is no fault
