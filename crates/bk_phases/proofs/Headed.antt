@@ -14,8 +14,8 @@ use Rattle.bk_statics.specs.Components.{Component, first_token, operation_names}
 use Rattle.bk_phases.specs.TermNames.{texts}
 use Rattle.bk_phases.specs.Resolve.{Scope}
 use Rattle.bk_phases.specs.Resolved.{Operation, is_headed, in_order, machine_header, resolved_operation, resolved_operations, after_names}
-use Rattle.bk_phases.specs.TwiceNamed.{twice_among}
-use Rattle.bk_phases.specs.Operations.{is_header, missing, other_headers}
+use Rattle.bk_phases.specs.TwiceNamed.{twice_among, texts_of}
+use Rattle.bk_phases.specs.Operations.{same_texts, is_header, missing, other_headers}
 use Rattle.bk_phases.proofs.Lists.{each-as}
 use Rattle.bk_phases.proofs.Scoped.{or-cases, or-left, or-right}
 
@@ -46,9 +46,9 @@ not-false : (c : Bool) → not c ≡ false → c ≡ true
 not-false true h = refl
 not-false false h = absurd (cc)
 
-and-first : (a : Bool) {b : Bool} → (a && b) ≡ true → a ≡ true
-and-first true h = refl
-and-first false h = absurd (cc)
+and-first : (a b : Bool) → (a && b) ≡ true → a ≡ true
+and-first true b h = refl
+and-first false b h = absurd (cc)
 
 -- ---- names that stand once
 twice-first : (before : List (List ℕ)) (x : RawName) (xs : List RawName) (c : Bool) → is_text before x.text ≡ c → cond c (x.at ∷ []) [] ++ twice_among (x.text ∷ before) xs ≡ [] → (is_text before x.text ≡ false) × (twice_among (x.text ∷ before) xs ≡ [])
@@ -78,7 +78,7 @@ none-named name before (o ∷ os) h e =
 
 one-named : (name : List ℕ) (before : List (List ℕ)) (os : List RawOperation) → twice_among before (operation_names os) ≡ [] → is_text (texts (operation_names os)) name ≡ true → names_of (named name os) ≡ name ∷ []
 one-named name before [] e t = absurd (cc)
-one-named name before (o ∷ os) e t = by (bytes_eq name o.name.text) refl
+one-named name before (o ∷ os) e t = by (λ q. one-named name (o.name.text ∷ before) os rest (later q)) (bytes_eq name o.name.text) refl
   where
     rest : twice_among (o.name.text ∷ before) (operation_names os) ≡ []
     rest = (twice-first before o.name (operation_names os) (is_text before o.name.text) refl e).1
@@ -89,13 +89,13 @@ one-named name before (o ∷ os) e t = by (bytes_eq name o.name.text) refl
       | inr b ↦ b
     ]
 
-    by : (c : Bool) → bytes_eq name o.name.text ≡ c → names_of (named name (o ∷ os)) ≡ name ∷ []
-    by true q =
+    by : (bytes_eq name o.name.text ≡ false → names_of (named name os) ≡ name ∷ []) → (c : Bool) → bytes_eq name o.name.text ≡ c → names_of (named name (o ∷ os)) ≡ name ∷ []
+    by others true q =
         let same : name ≡ o.name.text = (bytes_eq-Decides name o.name.text).0 q in
         let back : bytes_eq o.name.text name ≡ true = (bytes_eq-Decides o.name.text name).1 (sym same) in
         let none = none-named name (o.name.text ∷ before) os (or-left (bytes_eq o.name.text name) (is_text before name) back) rest in
         ap names_of (cond-true (bytes_eq name o.name.text) (o ∷ named name os) (named name os) q) ∙ (ap (λ l. o.name.text ∷ names_of l) none ∙ ap (λ y. y ∷ []) (sym same))
-    by false q = ap names_of (cond-false (bytes_eq name o.name.text) (o ∷ named name os) (named name os) q) ∙ one-named name (o.name.text ∷ before) os rest (later q)
+    by others false q = ap names_of (cond-false (bytes_eq name o.name.text) (o ∷ named name os) (named name os) q) ∙ others q
 
 -- ---- all headers
 each-named : (hs : List Head) (os : List RawOperation) → twice_among [] (operation_names os) ≡ [] → Each (λ (h : Head). is_text (texts (operation_names os)) h.name ≡ true) hs → names_of (flat_map (λ (h : Head). named h.name os) hs) ≡ map (λ (h : Head). h.name) hs
@@ -122,7 +122,9 @@ are-headed dev m s c e h =
     ∙ (ap (λ l. names_of (flat_map (λ (g : Head). named g.name os) dev.heads ++ l)) others ∙ (ap names_of (nothing-after (flat_map (λ (g : Head). named g.name os) dev.heads)) ∙ all))
   where
     headed : (o : RawOperation) → is_header dev o ≡ true → not (is_headed dev.heads o.name.text) ≡ false
-    headed o k = ap not (and-first (is_headed dev.heads o.name.text) k)
+    headed o k =
+        let own = machine_header dev 0 dev.heads o.name.text in
+        ap not (and-first (is_headed dev.heads o.name.text) (same_texts (texts_of own.inputs) (texts o.inputs) && same_texts (texts_of own.outputs) (texts o.outputs)) k)
 
     nothing-after : (xs : List RawOperation) → xs ++ [] ≡ xs
     nothing-after [] = refl

@@ -35,9 +35,9 @@ module _ (table : Table) where
   both-see s t h k = each-append (SeesListed table) (within s) (within t) h k
 
   -- a scope's names are of the table
-  record IsOf (c : Scope) : Type 0 where
-    names : AreOf table c.names
-    above : AreOf table c.above
+  pub record IsOf (c : Scope) : Type 0 where
+    pub names : AreOf table c.names
+    pub above : AreOf table c.above
 
   of-inside : (zs : List Local) (c : Scope) → IsOf c → IsOf (inside zs c)
   of-inside zs c a = record { names = of-join (in_scope zs) c.names (of-locals zs) a.names; above = a.above }

@@ -101,19 +101,25 @@ source-same table vs (from_conjunct xs x p) h = names-same table vs p.names h
 source-same table vs (from_name x) h = tt
 
 -- ---- a step, and rounds
+same-number : (m n : ℕ) → nat_eq m n ≡ true → m ≡ n
+same-number m n e = grind (arith, nat_tests)
+
+below-same : (m n top : ℕ) → m ≡ n → n < top → m < top
+below-same m n top e b = omega arith
+
+one-type : (t u : ValueType) → Some t ≡ Some u → t ≡ u
+one-type t u f = cc
+
 module _ (table : Table) (top : ℕ) where
   abbrev Told : Types → Type 0
   Told types = AreTold table top types.of
 
-  TypeTold : ℕ → Option ValueType → Type 0
+  abbrev TypeTold : ℕ → Option ValueType → Type 0
   TypeTold m o = (t : ValueType) → o ≡ Some t → (lists_type table t ≡ true) × (m < top)
 
   either-told : (m n : ℕ) (t : ValueType) (o : Option ValueType) (c : Bool) → nat_eq m n ≡ c → lists_type table t ≡ true → n < top → TypeTold m o → TypeTold m (cond c (Some t) o)
   either-told m n t o false e l b h = h
-  either-told m n t o true e l b h u f =
-      let same : m ≡ n = grind (arith, nat_tests) in
-      let one : t ≡ u = cc f in
-      (subst (λ v. lists_type table v ≡ true) one l, omega (arith, same, b))
+  either-told m n t o true e l b h = λ u f. (subst (λ v. lists_type table v ≡ true) (one-type t u f) l, below-same m n top (same-number m n e) b)
 
   one-told : (n : ℕ) (o : Option ValueType) (types : Types) → Whenever (Lists table) o → n < top → Told types → Told (with_one n o types)
   one-told n None types h b k = k
