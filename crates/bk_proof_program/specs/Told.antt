@@ -49,7 +49,8 @@ stray_before is_found name names = cond is_found names (name ∷ names)
 -- the names of the scripts that are for no obligation of the list
 abbrev pub stray_names : List Obligation → List RawScript → List (List ℕ)
 stray_names list [] = []
-stray_names list (s ∷ ss) = stray_before (is_some (find (λ o. bytes_eq (name_text s.name) o.name) list)) (name_text s.name) (stray_names list ss)
+stray_names list (s ∷ ss) =
+    stray_before (is_some (find (λ o. bytes_eq (name_text s.name) o.name) list)) (name_text s.name) (stray_names list ss)
 
 -- scripts that are for no obligation of the development
 abbrev pub AreStraysOf : Development → List RawScript → List Stray → Type 0

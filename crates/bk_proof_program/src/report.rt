@@ -165,9 +165,16 @@ fn first_name(alloc: Global, levels: &[Level]) -> Result<Text, Memory>
     ensures { IfOk result (λ name. name ≡ meant.machine_name levels.now) }
 {
     match levels.first() {
-        Some(level) => level.name.copy(alloc),
+        Some(level) => level_name(alloc, level),
         None => Ok(Text::from_bytes(Vec::new(alloc))),
     }
+}
+
+fn level_name(alloc: Global, level: &Level) -> Result<Text, Memory>
+    ensures { IfOk result (λ name. name ≡ level.now.name) }
+{
+    let name = level.name.copy(alloc)?;
+    Ok(name)
 }
 
 // The files that were read: the project file, the components, the proof files.

@@ -6,4 +6,4 @@ use Rattle.bk_proof_program.proofs.report.first_name.Goals as goal
 
 pub returns-in-Some : goal.returns-in-Some
 returns-in-Some c =
-    IfOk-weaker c.copy.result _ _ (λ name e. e ∙ ap (λ o. unwrap_or (option_map (λ (level : Level). level.name) o) []) c.in-Some.ensures.value) c.copy.ensures
+    IfOk-weaker c.level_name.result _ _ (λ name e. e ∙ ap (λ o. unwrap_or (option_map (λ (level : Level). level.name) o) []) c.in-Some.ensures.value) c.level_name.ensures
